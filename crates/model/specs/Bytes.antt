@@ -1,0 +1,41 @@
+-- Lists of bytes: numbers of several bytes, tests that compute, and the one way in which bytes change.
+-- Relies on the kit's lists; every other definition relies on it.
+use mathlib.Core.Bool.{Bool, true, false, not, _&&_, _||_}
+use mathlib.Core.List.{List, [], _∷_, _++_}
+use Prim.Native.Nat.{ℕ, zero, suc, _+_, _*_, _/_, _%_}
+use lib.Dec.{eqb}
+use lib.ListN.{length, getD, take, drop}
+
+-- byte i of a list, and 0 past its end
+abbrev pub byte : List ℕ → ℕ → ℕ
+byte b i = getD b i 0
+
+-- "numbers of several bytes are least significant byte first"
+unfoldable pub number : List ℕ → ℕ
+number [] = 0
+number (b ∷ bs) = b + 256 * number bs
+
+-- the lowest k bytes of a number
+unfoldable pub digits : ℕ → ℕ → List ℕ
+digits zero x = []
+digits (suc k) x = x % 256 ∷ digits k (x / 256)
+
+-- len bytes from offset at
+unfoldable pub part : ℕ → ℕ → List ℕ → List ℕ
+part at len b = take len (drop at b)
+
+-- the bytes v put in from offset at, every other byte as it was
+unfoldable pub splice : ℕ → List ℕ → List ℕ → List ℕ
+splice at v b = take at b ++ v ++ drop (at + length v) b
+
+unfoldable pub zeros : List ℕ → Bool
+zeros [] = true
+zeros (x ∷ xs) = eqb x 0 && zeros xs
+
+-- the test f passes at each number below k
+unfoldable pub every : ℕ → (ℕ → Bool) → Bool
+every zero f = true
+every (suc k) f = every k f && f k
+
+unfoldable pub implies : Bool → Bool → Bool
+implies a b = not a || b

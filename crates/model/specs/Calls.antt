@@ -1,0 +1,135 @@
+-- The calls: for each, the refusals in 01's order, then the answer and the bytes afterwards, from what is lent and given.
+-- Relies on all definitions but the shown line; every public contract is an equation with one of these.
+use mathlib.Core.Bool.{Bool, true, false, _&&_, cond}
+use mathlib.Core.List.{List, [], _∷_}
+use mathlib.Core.Option.{Option, none, some}
+use Prim.Native.Nat.{ℕ, _+_, _-_}
+use lib.Dec.{eqb, leb, ltb}
+use lib.ListN.{length}
+use Rattle.model.specs.Bytes.{byte, splice}
+use Rattle.model.specs.Figure.{Figure, figures}
+use Rattle.model.specs.Listing.{Register, Stage, writing, reading, has-decided, is-spent, Station, idle, active}
+use Rattle.model.specs.Listing.{Answer, refused, accepted, Move, Array, placeArray, placeColumn, proposed, move}
+use Rattle.model.specs.Layout.{boardLength, registerAt, recordAt, freshBoard, registerBytes, recordBytes, registerOf, stationOf}
+use Rattle.model.specs.Sound.{sound}
+
+-- What a call answers, and the bytes of the lent board as it returns.
+pub record After (A : Type 0) : Type 0 where
+  pub answer : A
+  pub bytes : List ℕ
+
+-- "A refusal answers its number only": the number, or none where the call is accepted.
+abbrev pub Refusal : Type 0
+Refusal = Option ℕ
+
+-- refused with the number if the test fails, and else as what comes after it "in checking order"
+unfoldable pub unless : Bool → ℕ → Refusal → Refusal
+unless true number later = later
+unless false number later = some number
+
+-- "7. The lent board is shorter than 8 bytes. 8. n is not 1 to 16. 9. K is not 2 to 64. 10. The board's length does not
+-- match n and K."
+unfoldable pub shapeRefusal : (n K : ℕ) → List ℕ → Refusal → Refusal
+shapeRefusal n K b later =
+    unless (leb 8 (length b)) 7
+    (unless (leb 1 n && leb n 16) 8 (unless (leb 2 K && leb K 64) 9 (unless (eqb (length b) (boardLength n K)) 10 later)))
+
+-- "11. The board is not sound." n and K are "from the head".
+unfoldable pub stations : List ℕ → ℕ
+stations b = byte b 0
+
+unfoldable pub islands : List ℕ → ℕ
+islands b = byte b 1
+
+unfoldable pub boardRefusal : List ℕ → Refusal → Refusal
+boardRefusal b later =
+    shapeRefusal (stations b) (islands b) b (unless (sound (stations b) (islands b) b) 11 later)
+
+-- "12. The station number is 0 or above n."
+unfoldable pub stationRefusal : ℕ → List ℕ → Refusal → Refusal
+stationRefusal i b later = boardRefusal b (unless (leb 1 i && leb i (stations b)) 12 later)
+
+-- the record of station number i, "numbered from 1"
+unfoldable pub stationAt : ℕ → List ℕ → Station Figure
+stationAt i b = stationOf (stations b) (islands b) (i - 1) b
+
+-- an accepted call's answer and bytes; "a refusal .. changes no byte"
+unfoldable pub unlessRefused : {A : Type 0} → Refusal → (ℕ → A) → List ℕ → After A → After A
+unlessRefused none turnDown b ok = ok
+unlessRefused (some k) turnDown b ok = record { answer = turnDown k; bytes = b }
+
+-- "lays a fresh board"; "n and K as given when laying", soundness "not tested when laying"
+unfoldable pub lay : (n K : ℕ) → List ℕ → After Refusal
+lay n K b = unlessRefused (shapeRefusal n K b none) some b (record { answer = none; bytes = freshBoard n K })
+
+-- The two ways in which an accepted call changes bytes: the record of station index j, and the one register written.
+unfoldable pub putStation : (n K j : ℕ) → Station Figure → List ℕ → List ℕ
+putStation n K j s b = splice (recordAt n K j) (recordBytes s) b
+
+unfoldable pub putRegister : (n : ℕ) → Array → (j : ℕ) → Option (Register Figure) → List ℕ → List ℕ
+putRegister n a j none b = b
+putRegister n a j (some r) b = splice (registerAt n a j) (registerBytes r) b
+
+-- "13. The station that proposes is not idle."
+unfoldable pub notIdle : Station Figure → Refusal
+notIdle idle = none
+notIdle (active v s) = some 13
+
+unfoldable pub propose : (i : ℕ) → Figure → List ℕ → After Refusal
+propose i v b =
+    unlessRefused (stationRefusal i b (notIdle (stationAt i b))) some b
+    (record { answer = none; bytes = putStation (stations b) (islands b) (i - 1) (proposed v) b })
+
+-- "14. The station to step is idle. 15. .. has unlessRefusedd. 16. .. is spent."
+unfoldable pub notGoing : Station Figure → Refusal
+notGoing idle = some 14
+notGoing (active v (writing t c x)) = none
+notGoing (active v (reading t c x p a)) = none
+notGoing (active v (has-decided c x)) = some 15
+notGoing (active v (is-spent c x)) = some 16
+
+-- An accepted step of the station with index j, proposal v and stage s: the listing's move over the one register at the
+-- stage's place, and nothing else of the board.
+unfoldable pub access : (n K j : ℕ) → Figure → Stage Figure → List ℕ → After (Answer Figure)
+access n K j v s b = done (move figures n K s (registerOf n (placeArray s) (placeColumn j s) b))
+  where
+    done : Move Figure → After (Answer Figure)
+    done m = record { answer = m .answer; bytes = putStation n K j (active v (m .stage)) (putRegister n (placeArray s) j (m .written) b) }
+
+unfoldable pub stepped : (n K j : ℕ) → Station Figure → List ℕ → After (Answer Figure)
+stepped n K j idle b = record { answer = refused 14; bytes = b }
+stepped n K j (active v s) b = access n K j v s b
+
+unfoldable pub step : (i : ℕ) → List ℕ → After (Answer Figure)
+step i b =
+    unlessRefused (stationRefusal i b (notGoing (stationAt i b))) refused b (stepped (stations b) (islands b) (i - 1) (stationAt i b) b)
+
+-- "S steps taken, T steps refused and passed over"
+pub record Ran : Type 0 where
+  pub taken : ℕ
+  pub passed : ℕ
+
+unfoldable pub tally : Ran → Bool → Ran
+tally r true = record { taken = r .taken + 1; passed = r .passed }
+tally r false = record { taken = r .taken; passed = r .passed + 1 }
+
+unfoldable pub ranOne : After Ran → ℕ → After Ran
+ranOne r i = record { answer = tally (r .answer) (accepted (step i (r .bytes) .answer)); bytes = step i (r .bytes) .bytes }
+
+-- the stations of the list one after another, each lent "the board exactly as the call before left it"
+unfoldable pub ranFrom : After Ran → List ℕ → After Ran
+ranFrom r [] = r
+ranFrom r (i ∷ is) = ranFrom (ranOne r i) is
+
+pub data RunAnswer : Type 0 where
+  ran : Ran → RunAnswer
+  notRun : (number : ℕ) → RunAnswer
+
+unfoldable pub finished : After Ran → After RunAnswer
+finished r = record { answer = ran (r .answer); bytes = r .bytes }
+
+-- "6. The items expand to more than 65,536 steps.", then the board's own refusals
+unfoldable pub run : (is : List ℕ) → List ℕ → After RunAnswer
+run is b =
+    unlessRefused (unless (leb (length is) 65536) 6 (boardRefusal b none)) notRun b
+    (finished (ranFrom (record { answer = record { taken = 0; passed = 0 }; bytes = b }) is))

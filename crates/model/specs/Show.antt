@@ -1,0 +1,70 @@
+-- The line that `show` hands back: "512 bytes, zeros after the line, and its length".
+-- Relies on the layout and the calls' refusals; the sheet's printed lines rely on its texts and numbers.
+use mathlib.Core.Bool.{Bool, true, false, cond}
+use mathlib.Core.List.{List, [], _∷_, _++_}
+use mathlib.Core.Option.{Option, none, some}
+use Prim.Native.Nat.{ℕ, zero, suc, _+_, _-_, _/_, _%_}
+use Prim.Native.Char.{code}
+use Prim.Native.String.{String, len, charAt}
+use lib.Dec.{leb, ltb}
+use lib.IntN.{pos, negsuc}
+use lib.ListN.{length, replicate}
+use Rattle.model.specs.Figure.{Figure}
+use Rattle.model.specs.Listing.{Stage, writing, reading, has-decided, is-spent, Station, idle, active}
+use Rattle.model.specs.Layout.{stationOf}
+use Rattle.model.specs.Calls.{Refusal, boardRefusal, unless, stations, islands}
+
+-- the bytes of an ASCII text
+unfoldable pub textFrom : String → (k at : ℕ) → List ℕ
+textFrom s zero at = []
+textFrom s (suc k) at = code (charAt s at) ∷ textFrom s k (suc at)
+
+unfoldable pub text : String → List ℕ
+text s = textFrom s (len s) 0
+
+-- "Numbers have no plus, no leading zero, no −0". A 32-bit number has at most ten digits; fuel counts the digits that
+-- may still come.
+unfoldable pub decimalIn : (fuel : ℕ) → ℕ → List ℕ
+decimalIn zero x = []
+decimalIn (suc fuel) x = cond (ltb x 10) [] (decimalIn fuel (x / 10)) ++ ((48 + x % 10) ∷ [])
+
+unfoldable pub decimal : ℕ → List ℕ
+decimal x = decimalIn 10 x
+
+unfoldable pub signed : Figure → List ℕ
+signed (pos k) = decimal k
+signed (negsuc k) = text "-" ++ decimal (suc k)
+
+-- " (i idle)", or the word with c and v
+unfoldable pub standing : (word : String) (c : ℕ) → Figure → List ℕ
+standing word c v = text word ++ text " " ++ decimal c ++ text " " ++ signed v
+
+-- "`(i idle)`, `(i going c v)`, `(i decided c v)` or `(i spent c v)`, v the carried figure; phases 1 to 6 are going"
+unfoldable pub status : Station Figure → List ℕ
+status idle = text "idle"
+status (active v (writing t c x)) = standing "going" c x
+status (active v (reading t c x p a)) = standing "going" c x
+status (active v (has-decided c x)) = standing "decided" c x
+status (active v (is-spent c x)) = standing "spent" c x
+
+-- "per station in order", the first k of them
+unfoldable pub statuses : (k n K : ℕ) → List ℕ → List ℕ
+statuses zero n K b = []
+statuses (suc k) n K b = statuses k n K b ++ text " (" ++ decimal (suc k) ++ text " " ++ status (stationOf n K k b) ++ text ")"
+
+-- "`(show)` prints `(stations ..)`"
+unfoldable pub shownLine : List ℕ → List ℕ
+shownLine b = text "(stations" ++ statuses (stations b) (stations b) (islands b) b ++ text ")"
+
+pub record Shown : Type 0 where
+  pub refusal : Refusal
+  pub line : List ℕ
+  pub len : ℕ
+
+unfoldable pub shownAs : Refusal → List ℕ → Shown
+shownAs none l = record { refusal = none; line = l ++ replicate (512 - length l) 0; len = length l }
+shownAs (some k) l = record { refusal = some k; line = replicate 512 0; len = 0 }
+
+-- the board's own refusals, then "17. The line for `show` would exceed 512 bytes."
+unfoldable pub show : List ℕ → Shown
+show b = shownAs (boardRefusal b (unless (leb (length (shownLine b)) 512) 17 none)) (shownLine b)

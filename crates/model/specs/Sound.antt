@@ -1,0 +1,122 @@
+-- Soundness: 01's clauses on the bytes of a board, each a named test, in 01's order and with its words.
+-- Relies on the layout and the listing's values; the calls rely on it.
+use mathlib.Core.Bool.{Bool, true, false, not, _&&_, _||_, cond}
+use mathlib.Core.List.{List}
+use Prim.Native.Nat.{ℕ}
+use lib.Dec.{eqb, leb, ltb}
+use Rattle.model.specs.Bytes.{byte, part, zeros, every, implies}
+use Rattle.model.specs.Figure.{Figure, figures, sameFigure}
+use Rattle.model.specs.Listing.{Turn, turnM, turnA, turnB, Seen, nothing, seen, Register, empty, filled}
+use Rattle.model.specs.Listing.{Stage, writing, reading, has-decided, is-spent, Station, idle, active}
+use Rattle.model.specs.Listing.{Array, inM, inA, inB, Order, array, entry, pairAbove}
+use Rattle.model.specs.Layout.{registerAt, registerOf, recordOf, ofPhase, station}
+use Rattle.model.specs.Told.{flagNumber}
+
+-- "Head, 8 bytes: n, K, six zeros."
+unfoldable pub headSound : List ℕ → Bool
+headSound b = zeros (part 2 6 b)
+
+-- "mark, island, two zeros, figure. An empty register is all zero. Marks: m and A 1 written; B 1 adopt, 2 commit. The
+-- island byte is below K in m and zero in A and B."
+unfoldable pub registerSound : (marks islands : ℕ) → List ℕ → Bool
+registerSound marks islands r =
+    cond (eqb (byte r 0) 0) (zeros r) (leb (byte r 0) marks && ltb (byte r 1) islands && zeros (part 2 2 r))
+
+unfoldable pub arraySound : (n K : ℕ) → List ℕ → Array → Bool
+arraySound n K b inM = every n λ j. registerSound 1 K (part (registerAt n inM j) 8 b)
+arraySound n K b (inA c) = every n λ j. registerSound 1 1 (part (registerAt n (inA c) j) 8 b)
+arraySound n K b (inB c) = every n λ j. registerSound 2 1 (part (registerAt n (inB c) j) 8 b)
+
+unfoldable pub registersSound : (n K : ℕ) → List ℕ → Bool
+registersSound n K b = arraySound n K b inM && every K λ c. arraySound n K b (inA c) && arraySound n K b (inB c)
+
+-- The clauses on one record r of a board, at its phase, which is its byte 0.
+module _ (phase : ℕ) (r : List ℕ) where
+  unfoldable pub collecting : Bool
+  collecting = eqb phase 2 || eqb phase 4 || eqb phase 6
+
+  -- "byte 0 phase (0 idle, .., 8 spent)"
+  unfoldable pub phaseKnown : Bool
+  phaseKnown = leb phase 8
+
+  -- "1 next position to read, 0 to n − 1"
+  unfoldable pub positionInside : (n : ℕ) → Bool
+  positionInside n = ltb (byte r 1) n
+
+  -- "2 island c, below K"
+  unfoldable pub islandInside : (K : ℕ) → Bool
+  islandInside K = ltb (byte r 2) K
+
+  -- "4 best island, below K"
+  unfoldable pub bestInside : (K : ℕ) → Bool
+  bestInside K = ltb (byte r 4) K
+
+  -- "5 flag to write, 1 adopt or 2 commit"; "Byte 5 is zero outside phases 5, 6."
+  unfoldable pub flagKnown : Bool
+  flagKnown = cond (eqb phase 5 || eqb phase 6) (eqb (byte r 5) 1 || eqb (byte r 5) 2) (eqb (byte r 5) 0)
+
+  -- "6–7 zero", "20–23 zero"
+  unfoldable pub restZero : Bool
+  restZero = zeros (part 6 2 r) && zeros (part 20 4 r)
+
+  -- "Idle is all zero."
+  unfoldable pub idleZero : Bool
+  idleZero = implies (eqb phase 0) (zeros r)
+
+  -- "Bytes 1, 3 and 16–19 are zero outside phases 2, 4, 6."
+  unfoldable pub collectZero : Bool
+  collectZero = collecting || (eqb (byte r 1) 0 && eqb (byte r 3) 0 && zeros (part 16 4 r))
+
+  -- "Byte 4 is zero outside phase 2."
+  unfoldable pub bestIslandZero : Bool
+  bestIslandZero = eqb phase 2 || eqb (byte r 4) 0
+
+  -- "While seen is 0, the best fields are zero."
+  unfoldable pub bestZero : Bool
+  bestZero = implies (eqb (byte r 3) 0) (eqb (byte r 4) 0 && zeros (part 16 4 r))
+
+  -- "Seen in phase 2: 0 nothing, 1 something. In 4: .. 2 different figures. In 6: .. 3 a commit beside .."
+  unfoldable pub seenKnown : Bool
+  seenKnown = leb (byte r 3) (cond (eqb phase 2) 1 (cond (eqb phase 4) 2 3))
+
+unfoldable pub sameRegister : Register Figure → Register Figure → Bool
+sameRegister empty empty = true
+sameRegister empty (filled f k v) = false
+sameRegister (filled f k v) empty = false
+sameRegister (filled f k v) (filled g j w) = eqb (flagNumber f) (flagNumber g) && eqb k j && sameFigure v w
+
+-- "In phases 2, 4 and 6 the station's own register holds what the record says it wrote: (c, carried), carried, or (flag,
+-- carried)." i is the station's index from 0.
+unfoldable pub ownWritten : (n i : ℕ) → List ℕ → Station Figure → Bool
+ownWritten n i b idle = true
+ownWritten n i b (active v (writing t c x)) = true
+ownWritten n i b (active v (reading t c x p a)) = sameRegister (registerOf n (array t c) i b) (entry t c x)
+ownWritten n i b (active v (has-decided c x)) = true
+ownWritten n i b (active v (is-spent c x)) = true
+
+-- "seen is not 0, and in phases 2 and 4 best is no lower than what it wrote"
+unfoldable pub ownSeen : Turn → (c : ℕ) (x : Figure) → Seen Figure → Bool
+ownSeen t c x nothing = false
+ownSeen turnM c x (seen g k y) = not (pairAbove figures c x k y)
+ownSeen turnA c x (seen g k y) = not (figures .above x y)
+ownSeen (turnB f) c x (seen g k y) = true
+
+-- "Once its own position is passed": the next position is greater than the station's index.
+unfoldable pub ownPassed : (i : ℕ) → Station Figure → Bool
+ownPassed i idle = true
+ownPassed i (active v (writing t c x)) = true
+ownPassed i (active v (reading t c x p a)) = implies (ltb i p) (ownSeen t c x a)
+ownPassed i (active v (has-decided c x)) = true
+ownPassed i (active v (is-spent c x)) = true
+
+unfoldable pub fieldsSound : (n K phase : ℕ) → List ℕ → Bool
+fieldsSound n K phase r =
+    phaseKnown phase r && positionInside phase r n && islandInside phase r K && bestInside phase r K && flagKnown phase r
+    && restZero phase r && idleZero phase r && collectZero phase r && bestIslandZero phase r && bestZero phase r && seenKnown phase r
+
+unfoldable pub recordSound : (n K i : ℕ) → (b r : List ℕ) → Bool
+recordSound n K i b r = fieldsSound n K (byte r 0) r && ownWritten n i b (station r) && ownPassed i (station r)
+
+-- "A board that keeps all this is sound"; n and K are its own and its length fits them.
+unfoldable pub sound : (n K : ℕ) → List ℕ → Bool
+sound n K b = headSound b && registersSound n K b && every n λ i. recordSound n K i b (recordOf n K i b)
