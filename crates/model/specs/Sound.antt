@@ -16,16 +16,25 @@ use Rattle.model.specs.Told.{flagNumber}
 unfoldable pub headSound : List ℕ → Bool
 headSound b = zeros (part 2 6 b)
 
--- "mark, island, two zeros, figure. An empty register is all zero. Marks: m and A 1 written; B 1 adopt, 2 commit. The
--- island byte is below K in m and zero in A and B."
+-- "mark, island, two zeros, figure. An empty register is all zero."
 unfoldable pub registerSound : (marks islands : ℕ) → List ℕ → Bool
 registerSound marks islands r =
     cond (eqb (byte r 0) 0) (zeros r) (leb (byte r 0) marks && ltb (byte r 1) islands && zeros (part 2 2 r))
 
+-- "Marks: m and A 1 written; B 1 adopt, 2 commit."
+unfoldable pub marksIn : Array → ℕ
+marksIn inM = 1
+marksIn (inA c) = 1
+marksIn (inB c) = 2
+
+-- "The island byte is below K in m and zero in A and B."
+unfoldable pub islandsIn : (K : ℕ) → Array → ℕ
+islandsIn K inM = K
+islandsIn K (inA c) = 1
+islandsIn K (inB c) = 1
+
 unfoldable pub arraySound : (n K : ℕ) → List ℕ → Array → Bool
-arraySound n K b inM = every n λ j. registerSound 1 K (part (registerAt n inM j) 8 b)
-arraySound n K b (inA c) = every n λ j. registerSound 1 1 (part (registerAt n (inA c) j) 8 b)
-arraySound n K b (inB c) = every n λ j. registerSound 2 1 (part (registerAt n (inB c) j) 8 b)
+arraySound n K b a = every n λ j. registerSound (marksIn a) (islandsIn K a) (part (registerAt n a j) 8 b)
 
 unfoldable pub registersSound : (n K : ℕ) → List ℕ → Bool
 registersSound n K b = arraySound n K b inM && every K λ c. arraySound n K b (inA c) && arraySound n K b (inB c)

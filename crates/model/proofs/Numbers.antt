@@ -1,0 +1,84 @@
+-- Numbers of several bytes, and figures, as bytes and back. One law each, for any count of bytes.
+-- Relies on Bytes and Figure; the laws on registers and records rely on it.
+use mathlib.Core.Path.{_≡_, refl, sym, ap, _∙_, subst}
+use mathlib.Core.Bool.{Bool, true, false}
+use mathlib.Core.List.{List, [], _∷_}
+use Prim.Native.Nat.{ℕ, zero, suc, _+_, _*_, _^_, _-_, _/_, _%_, _≤_, _<_}
+use native.Mathlib.Nat.{div-add-mod', mul-comm, add-comm, pow-suc, div-lt-iff-lt-mul, mod-lt, add-mul-mod-self-left, mod-eq-of-lt, add-mul-div-left, div-eq-of-lt, zero-add}
+use native.Mathlib.Omega.{arith}
+use lib.Dec.{T, eqb, ltb, eqb→eq, eqb-refl, lit<, lit≤, ltb→lt}
+use lib.IntN.{ℤ, pos, negsuc}
+use lib.Signed.{mag}
+use lib.ListN.{length}
+use mir.Syntax.{w32}
+use mir.Val.{toZ, ofZ, SFits, Fits, sel}
+use mir.Facts.{toZ-ofZ, ofZ-toZ, fits-ofZ}
+use borrow.Author.Tests.{ltb-false}
+use Rattle.model.specs.Bytes.{number, digits}
+use Rattle.model.specs.Figure.{Figure, figure, figureBytes, sameFigure}
+
+-- every element is a byte
+unfoldable pub Bytes : List ℕ → Type 0
+Bytes [] = Unit {0}
+Bytes (b ∷ bs) = (b < 256) × Bytes bs
+
+pub length-digits : (k x : ℕ) → length (digits k x) ≡ k
+unfolding digits
+length-digits zero x = refl
+length-digits (suc k) x = ap suc (length-digits k (x / 256))
+
+pub number-digits : (k x : ℕ) → x < 256 ^ k → number (digits k x) ≡ x
+unfolding number digits
+number-digits zero x h = omega arith
+number-digits (suc k) x h =
+    ap (λ (y : ℕ). x % 256 + 256 * y) (number-digits k (x / 256) (div-lt-iff-lt-mul (lit< tt) .1 (subst (λ (m : ℕ). x < m) (pow-suc 256 k) h)))
+    ∙ omega (arith, div-add-mod' x 256)
+
+pub digits-number : (bs : List ℕ) → Bytes bs → digits (length bs) (number bs) ≡ bs
+unfolding number digits Bytes
+digits-number [] h = refl
+digits-number (b ∷ bs) h = λ i. low i ∷ (ap (digits (length bs)) high ∙ digits-number bs (h .1)) i
+  where
+    low : (b + 256 * number bs) % 256 ≡ b
+    low = add-mul-mod-self-left b 256 (number bs) ∙ mod-eq-of-lt (h .0)
+
+    high : (b + 256 * number bs) / 256 ≡ number bs
+    high = add-mul-div-left b (number bs) (lit< tt) ∙ ap (λ (x : ℕ). x + number bs) (div-eq-of-lt (h .0)) ∙ zero-add (number bs)
+
+pub number-lt : (bs : List ℕ) → Bytes bs → number bs < 256 ^ length bs
+unfolding number Bytes
+number-lt [] h = lit< tt
+number-lt (b ∷ bs) h = subst (λ (m : ℕ). b + 256 * number bs < m) (sym (pow-suc 256 (length bs))) (omega (arith, number-lt bs (h .1), h .0))
+
+-- Whatever bits are read, the figure is a 32-bit one.
+pub figure-fits : (b : List ℕ) → SFits w32 (figure b)
+unfolding figure
+figure-fits b = go (ltb (number b) (2 ^ 31)) refl
+  where
+    go : (t : Bool) → ltb (number b) (2 ^ 31) ≡ t → SFits w32 (sel t (pos (number b)) (negsuc (2 ^ 32 - suc (number b))))
+    go true e = record { sfits = ltb→lt (number b) (2 ^ 31) (subst T (sym e) tt) }
+    go false e = record { sfits = omega (arith, ltb-false (number b) (2 ^ 31) e) }
+
+-- "figures in two's complement": each way round
+pub figure-bytes : (v : Figure) → SFits w32 v → figure (figureBytes v) ≡ v
+unfolding figure figureBytes
+figure-bytes v h = ap (toZ w32) (number-digits 4 (ofZ w32 v) (fits-ofZ h .fits)) ∙ toZ-ofZ h
+
+pub bytes-figure : (b : List ℕ) → length b ≡ 4 → Bytes b → figureBytes (figure b) ≡ b
+unfolding figure figureBytes
+bytes-figure b l h =
+    ap (digits 4) (ofZ-toZ {w = w32} (record { fits = subst (λ (k : ℕ). number b < 256 ^ k) l (number-lt b h) }))
+    ∙ ap (λ (k : ℕ). digits k (number b)) (sym l) ∙ digits-number b h
+
+-- the test of equality tells equal figures
+pub same-is : (v w : Figure) → T (sameFigure v w) → v ≡ w
+unfolding sameFigure
+same-is (pos a) (pos b) t = ap pos (eqb→eq a b t)
+same-is (pos a) (negsuc b) t = absurd t
+same-is (negsuc a) (pos b) t = absurd t
+same-is (negsuc a) (negsuc b) t = ap negsuc (eqb→eq a b t)
+
+pub same-refl : (v : Figure) → T (sameFigure v v)
+unfolding sameFigure
+same-refl (pos a) = eqb-refl a
+same-refl (negsuc a) = eqb-refl a

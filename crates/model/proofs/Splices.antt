@@ -1,0 +1,80 @@
+-- A part of a list of bytes after a splice: what was spliced in, or what stood there before.
+-- Relies on Bytes; the laws on boards rely on it.
+use mathlib.Core.Path.{_≡_, refl, sym, ap, _∙_, subst}
+use mathlib.Core.List.{List, [], _∷_, _++_}
+use Prim.Native.Nat.{ℕ, zero, suc, _+_, _-_, _≤_, _<_}
+use native.Mathlib.Nat.{le-refl, add-comm, add-assoc, min-eq-left, le-trans, le-add-right}
+use native.Mathlib.Omega.{arith}
+use lib.ListN.{length, take, drop, getD, length-append, length-take, length-drop, List·getD-append}
+use lib.Seq.{take-append-le, drop-append-le, take-at, drop-at, drop-append-add, take-append-seam, drop-drop, take-take, length-take-le, ext-getD, getD-take, getD-drop, getD-append-add}
+use Rattle.model.specs.Bytes.{byte, part, splice}
+
+pub length-part : (at len : ℕ) (b : List ℕ) → at + len ≤ length b → length (part at len b) ≡ len
+unfolding part
+length-part at len b h = length-take-le len (drop at b) (subst (λ (k : ℕ). len ≤ k) (sym (length-drop at b)) (omega arith))
+
+pub byte-part : (at len : ℕ) (b : List ℕ) (i : ℕ) → i < len → byte (part at len b) i ≡ byte b (at + i)
+unfolding part
+byte-part at len b i h = getD-take len (drop at b) i 0 h ∙ getD-drop at b i 0
+
+-- A splice that fits, byte by byte.
+module _ (at : ℕ) (v b : List ℕ) (fits : at + length v ≤ length b) where
+  head-length : length (take at b) ≡ at
+  head-length = length-take-le at b (omega arith)
+
+  front-length : length (take at b ++ v) ≡ at + length v
+  front-length = length-append (take at b) v ∙ ap (λ (k : ℕ). k + length v) head-length
+
+  pub length-splice : length (splice at v b) ≡ length b
+  unfolding splice
+  length-splice = simp (length-append, length-take, length-drop) (omega arith)
+
+  pub byte-before : (i : ℕ) → i < at → byte (splice at v b) i ≡ byte b i
+  unfolding splice
+  byte-before i h =
+      List·getD-append (take at b ++ v) (drop (at + length v) b) 0 i (omega (arith, front-length))
+      ∙ List·getD-append (take at b) v 0 i (omega (arith, head-length)) ∙ getD-take at b i 0 h
+
+  pub byte-inside : (i : ℕ) → i < length v → byte (splice at v b) (at + i) ≡ byte v i
+  unfolding splice
+  byte-inside i h =
+      List·getD-append (take at b ++ v) (drop (at + length v) b) 0 (at + i) (omega (arith, front-length))
+      ∙ ap (λ (k : ℕ). getD (take at b ++ v) (k + i) 0) (sym head-length) ∙ getD-append-add (take at b) v i 0
+
+  pub byte-after : (i : ℕ) → byte (splice at v b) (at + length v + i) ≡ byte b (at + length v + i)
+  unfolding splice
+  byte-after i =
+      ap (λ (k : ℕ). getD (take at b ++ v ++ drop (at + length v) b) (k + i) 0) (sym front-length)
+      ∙ getD-append-add (take at b ++ v) (drop (at + length v) b) i 0 ∙ getD-drop (at + length v) b i 0
+
+  -- the bytes from e on, e at or past the end of what was put in
+  byte-from : (e i : ℕ) → at + length v ≤ e → byte (splice at v b) (e + i) ≡ byte b (e + i)
+  byte-from e i h =
+      ap (byte (splice at v b)) (sym split) ∙ byte-after (e - (at + length v) + i) ∙ ap (byte b) split
+    where
+      split : at + length v + (e - (at + length v) + i) ≡ e + i
+      split = omega arith
+
+  pub part-same : part at (length v) (splice at v b) ≡ v
+  part-same =
+      ext-getD 0 (part at (length v) (splice at v b)) v (length-part at (length v) (splice at v b) (omega (arith, length-splice)))
+      (λ (i : ℕ) (h : i < length (part at (length v) (splice at v b))).
+      let l : i < length v = omega (arith, length-part at (length v) (splice at v b) (omega (arith, length-splice))) in
+      byte-part at (length v) (splice at v b) i l ∙ byte-inside i l)
+
+  part-as : (from len : ℕ) → from + len ≤ length b → ((i : ℕ) → i < len → byte (splice at v b) (from + i) ≡ byte b (from + i))
+      → part from len (splice at v b) ≡ part from len b
+  part-as from len h f =
+      ext-getD 0 (part from len (splice at v b)) (part from len b) (after ∙ sym (length-part from len b h))
+      (λ (i : ℕ) (l : i < length (part from len (splice at v b))).
+      let k : i < len = omega (arith, after) in
+      byte-part from len (splice at v b) i k ∙ f i k ∙ sym (byte-part from len b i k))
+    where
+      after : length (part from len (splice at v b)) ≡ len
+      after = length-part from len (splice at v b) (omega (arith, length-splice))
+
+  pub part-before : (from len : ℕ) → from + len ≤ at → part from len (splice at v b) ≡ part from len b
+  part-before from len h = part-as from len (omega arith) (λ i l. byte-before (from + i) (omega arith))
+
+  pub part-after : (from len : ℕ) → at + length v ≤ from → from + len ≤ length b → part from len (splice at v b) ≡ part from len b
+  part-after from len h k = part-as from len k (λ i l. byte-from from i h)

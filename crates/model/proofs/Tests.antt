@@ -1,0 +1,81 @@
+-- Tests that compute, turned into facts and back: conjunctions, "for each number below k", and lists of zeros.
+-- Relies on the definitions of Bytes; all laws about soundness rely on it.
+use mathlib.Core.Path.{_≡_, refl, sym, ap, _∙_, subst}
+use mathlib.Core.Bool.{Bool, true, false, not, _&&_, _||_, cond}
+use mathlib.Core.Logic.{_⊎_, inl, inr, ⊎-elim}
+use mathlib.Core.List.{List, [], _∷_, _++_}
+use Prim.Native.Nat.{ℕ, zero, suc, _+_, _≤_, _<_}
+use native.Mathlib.Nat.{le-of-suc-le-suc, not-suc-le-zero, le-suc, le-trans, le-refl, eq-or-lt-of-le}
+use lib.Dec.{T, leb, ltb, eqb, eqb→eq, eqb-refl, not-T}
+use lib.ListN.{length, replicate, getD}
+use Rattle.model.specs.Bytes.{every, zeros, implies}
+
+pub and-l : (a b : Bool) → T (a && b) → T a
+and-l true b t = tt
+and-l false b t = t
+
+pub and-r : (a b : Bool) → T (a && b) → T b
+and-r true b t = t
+and-r false b t = absurd t
+
+pub and-i : (a b : Bool) → T a → T b → T (a && b)
+and-i true b s t = t
+and-i false b s t = s
+
+pub or-case : (a b : Bool) → T (a || b) → T a ⊎ T b
+or-case true b t = inl tt
+or-case false b t = inr t
+
+pub true-T : (a : Bool) → a ≡ true → T a
+true-T a e = subst T (sym e) tt
+
+pub T-true : (a : Bool) → T a → a ≡ true
+T-true true t = refl
+T-true false t = absurd t
+
+pub T-false : (a : Bool) → T (not a) → a ≡ false
+T-false true t = absurd t
+T-false false t = refl
+
+-- a Bool is decided
+pub decided-test : (a : Bool) → T a ⊎ T (not a)
+decided-test true = inl tt
+decided-test false = inr tt
+
+pub implies-use : (a b : Bool) → T (implies a b) → T a → T b
+unfolding implies
+implies-use true b t s = t
+implies-use false b t s = absurd s
+
+pub implies-make : (a b : Bool) → (T a → T b) → T (implies a b)
+unfolding implies
+implies-make true b f = f tt
+implies-make false b f = tt
+
+-- the test f passes at each number below k exactly when `every` says so
+pub every-at : (k : ℕ) (f : ℕ → Bool) → T (every k f) → (j : ℕ) → j < k → T (f j)
+unfolding every
+every-at zero f t j h = absurd (not-suc-le-zero h)
+every-at (suc k) f t j h =
+    ⊎-elim (λ (e : j ≡ k). subst (λ (i : ℕ). T (f i)) (sym e) (and-r (every k f) (f k) t))
+    (λ (l : j < k). every-at k f (and-l (every k f) (f k) t) j l) (eq-or-lt-of-le (le-of-suc-le-suc h))
+
+pub every-all : (k : ℕ) (f : ℕ → Bool) → ((j : ℕ) → j < k → T (f j)) → T (every k f)
+unfolding every
+every-all zero f h = tt
+every-all (suc k) f h = and-i (every k f) (f k) (every-all k f (λ j l. h j (le-trans l (le-suc k)))) (h k (le-refl (suc k)))
+
+-- a list that passes the test is the list of zeros of its length
+pub zeros-replicate : (k : ℕ) → T (zeros (replicate k 0))
+unfolding zeros
+zeros-replicate zero = tt
+zeros-replicate (suc k) = zeros-replicate k
+
+pub zeros-is : (l : List ℕ) → T (zeros l) → l ≡ replicate (length l) 0
+unfolding zeros
+zeros-is [] t = refl
+zeros-is (x ∷ xs) t =
+    ap (λ (y : ℕ). y ∷ xs) (eqb→eq x 0 (and-l (eqb x 0) (zeros xs) t)) ∙ ap (λ (l : List ℕ). 0 ∷ l) (zeros-is xs (and-r (eqb x 0) (zeros xs) t))
+
+pub eq-T : (a b : ℕ) → a ≡ b → T (eqb a b)
+eq-T a b e = subst (λ (x : ℕ). T (eqb a x)) e (eqb-refl a)
