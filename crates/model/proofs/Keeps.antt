@@ -79,19 +79,21 @@ module _ (i n K : ℕ) (b : List ℕ) (s : SoundBut i n K b) (a : Array) (inside
         (subst⁻¹ (λ (l : List ℕ). T (recordSound n K j b l)) (register-record n K b (s .len) a inside i own r j h) (s .others j h f));
   }
 
+-- A good station with its own clauses encodes to a sound record.
+pub record-sound : (n K : ℕ) → 0 < n → 0 < K → (i : ℕ) (b : List ℕ) (s : Station Figure) → FitsStation s → SoundStation n K i b s
+    → T (recordSound n K i b (recordBytes s))
+unfolding recordSound
+record-sound n K hn hK i b s fits g =
+    and-i (fieldsSound n K (byte (recordBytes s) 0) (recordBytes s) && ownWritten n i b (station (recordBytes s))) (ownPassed i (station (recordBytes s)))
+    (and-i (fieldsSound n K (byte (recordBytes s) 0) (recordBytes s)) (ownWritten n i b (station (recordBytes s)))
+    (true-T _ (good-fields n K hn hK s (g .good)))
+    (subst⁻¹ (λ (z : Station Figure). T (ownWritten n i b z)) (station-bytes s fits) (g .written)))
+    (subst⁻¹ (λ (z : Station Figure). T (ownPassed i z)) (station-bytes s fits) (g .passed))
+
 -- The record of station index i is put in.
 module _ (i n K : ℕ) (b : List ℕ) (q : SoundBut i n K b) (own : i < n) (hK : 0 < K) (s : Station Figure) (fits : FitsStation s) (g : SoundStation n K i b s) where
   own-registers : (j : ℕ) → j < n → (a : Array) → InBoard K a → registerPart n a j (putStation n K i s b) ≡ registerPart n a j b
   own-registers j h a l = station-register n K b (q .len) i own s a j l h
-
-  own-record : T (recordSound n K i b (recordBytes s))
-  unfolding recordSound
-  own-record =
-      and-i (fieldsSound n K (byte (recordBytes s) 0) (recordBytes s) && ownWritten n i b (station (recordBytes s))) (ownPassed i (station (recordBytes s)))
-      (and-i (fieldsSound n K (byte (recordBytes s) 0) (recordBytes s)) (ownWritten n i b (station (recordBytes s)))
-      (true-T _ (good-fields n K (omega arith) hK s (g .good)))
-      (subst⁻¹ (λ (z : Station Figure). T (ownWritten n i b z)) (station-bytes s fits) (g .written)))
-      (subst⁻¹ (λ (z : Station Figure). T (ownPassed i z)) (station-bytes s fits) (g .passed))
 
   record-at : (j : ℕ) → j < n → T (recordSound n K j b (recordOf n K j (putStation n K i s b)))
   record-at j h = go (ℕ-discrete i j)
@@ -99,7 +101,7 @@ module _ (i n K : ℕ) (b : List ℕ) (q : SoundBut i n K b) (own : i < n) (hK :
       go : Dec (i ≡ j) → T (recordSound n K j b (recordOf n K j (putStation n K i s b)))
       go (yes e) =
           subst (λ (k : ℕ). T (recordSound n K k b (recordOf n K k (putStation n K i s b)))) e
-          (subst⁻¹ (λ (l : List ℕ). T (recordSound n K i b l)) (station-same n K b (q .len) i own s) own-record)
+          (subst⁻¹ (λ (l : List ℕ). T (recordSound n K i b l)) (station-same n K b (q .len) i own s) (record-sound n K (omega arith) hK i b s fits g))
       go (no f) = subst⁻¹ (λ (l : List ℕ). T (recordSound n K j b l)) (station-other n K b (q .len) i own s j h f) (q .others j h f)
 
   pub station-keeps : SoundBoard n K (putStation n K i s b)

@@ -14,5 +14,14 @@ pub mod SoundFacts
 pub mod Values
 pub mod Keeps
 pub mod Written
+pub mod Access
 pub mod StepKeeps
+pub mod Fresh
+pub mod Refusals
+pub mod CallsKeep
+pub mod Refused
+pub mod Local
+pub mod Runs
+pub mod Parts
+pub mod Canon
 pub mod Starred

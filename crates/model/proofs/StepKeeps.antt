@@ -25,7 +25,7 @@ use Rattle.model.proofs.Good.{GoodSeen, GoodStage, GoodStation}
 use Rattle.model.proofs.Collect.{cond-case}
 use Rattle.model.proofs.OneRead.{own-kept, own-met}
 use Rattle.model.proofs.Moves.{move-good, move-fits}
-use Rattle.model.proofs.Written.{read-writes}
+use Rattle.model.proofs.Access.{write-bytes, read-bytes}
 use Rattle.model.proofs.SoundFacts.{registerTest, SoundBoard, SoundBut}
 use Rattle.model.proofs.Values.{array-inside, register-same-refl, SoundStation, sound-station, own-register, readable}
 use Rattle.model.proofs.Keeps.{sound-but, register-keeps, station-keeps}
@@ -130,11 +130,12 @@ module _ (n K : ℕ) (b : List ℕ) (q : SoundBoard n K b) (hK : 0 < K) (i : ℕ
     }
 
     write-keeps : SoundBoard n K (access n K i v (writing t c x) b .bytes)
-    unfolding access move placeArray placeColumn between GoodStation GoodStage FitsStation FitsStage FitsSeen
+    unfolding between GoodStation GoodStage FitsStation FitsStage FitsSeen
     write-keeps =
-        station-keeps i n K between
+        subst⁻¹ (SoundBoard n K) (write-bytes n K i v b t c x)
+        (station-keeps i n K between
         (register-keeps i n K b (sound-but i n K b q) (array t c) inside own (entry t c x) (true-T _ (entry-sound K t c x (g .good))))
-        own hK (active v (reading t c x 0 nothing)) (fits .0, (fits .1, tt)) begun
+        own hK (active v (reading t c x 0 nothing)) (fits .0, (fits .1, tt)) begun)
 
   -- a read: the record alone is put in
   module _ (t : Turn) (c : ℕ) (x : Figure) (p : ℕ) (a : Seen Figure) (fits : FitsStation (active v (reading t c x p a))) (g : SoundStation n K i b (active v (reading t c x p a))) where
@@ -168,10 +169,9 @@ module _ (n K : ℕ) (b : List ℕ) (q : SoundBoard n K b) (hK : 0 < K) (i : ℕ
     }
 
     read-keeps : SoundBoard n K (access n K i v (reading t c x p a) b .bytes)
-    unfolding moved met access putRegister placeArray placeColumn FitsStation
+    unfolding moved met FitsStation placeArray placeColumn
     read-keeps =
-        subst⁻¹ (λ (w : Option (Register Figure)). SoundBoard n K (putStation n K i (active v (moved .stage)) (putRegister n (array t c) i w b)))
-        (read-writes K figures n t c x p a met)
+        subst⁻¹ (SoundBoard n K) (read-bytes n K i v b t c x p a)
         (station-keeps i n K b (sound-but i n K b q) own hK (active v (moved .stage))
         (fits .0, move-fits n K (reading t c x p a) met (fits .1) (readable n K b q i own v (reading t c x p a) g)) gone-on)
 

@@ -46,8 +46,8 @@ boardRefusal b later =
     shapeRefusal (stations b) (islands b) b (unless (sound (stations b) (islands b) b) 11 later)
 
 -- "12. The station number is 0 or above n."
-unfoldable pub stationRefusal : ℕ → List ℕ → Refusal → Refusal
-stationRefusal i b later = boardRefusal b (unless (leb 1 i && leb i (stations b)) 12 later)
+unfoldable pub stationRefusal : (i : ℕ) → List ℕ → Refusal → Refusal
+stationRefusal i b later = unless (leb 1 i && leb i (stations b)) 12 later
 
 -- the record of station number i, "numbered from 1"
 unfoldable pub stationAt : ℕ → List ℕ → Station Figure
@@ -77,7 +77,7 @@ notIdle (active v s) = some 13
 
 unfoldable pub propose : (i : ℕ) → Figure → List ℕ → After Refusal
 propose i v b =
-    unlessRefused (stationRefusal i b (notIdle (stationAt i b))) some b
+    unlessRefused (boardRefusal b (stationRefusal i b (notIdle (stationAt i b)))) some b
     (record { answer = none; bytes = putStation (stations b) (islands b) (i - 1) (proposed v) b })
 
 -- "14. The station to step is idle. 15. .. has unlessRefusedd. 16. .. is spent."
@@ -100,9 +100,15 @@ unfoldable pub stepped : (n K j : ℕ) → Station Figure → List ℕ → After
 stepped n K j idle b = record { answer = refused 14; bytes = b }
 stepped n K j (active v s) b = access n K j v s b
 
+-- a step on a board that is known to be sound
+unfoldable pub stepOn : (i : ℕ) → List ℕ → After (Answer Figure)
+stepOn i b =
+    unlessRefused (stationRefusal i b (notGoing (stationAt i b))) refused b
+    (stepped (stations b) (islands b) (i - 1) (stationAt i b) b)
+
+-- and on any lent bytes
 unfoldable pub step : (i : ℕ) → List ℕ → After (Answer Figure)
-step i b =
-    unlessRefused (stationRefusal i b (notGoing (stationAt i b))) refused b (stepped (stations b) (islands b) (i - 1) (stationAt i b) b)
+step i b = unlessRefused (boardRefusal b none) refused b (stepOn i b)
 
 -- "S steps taken, T steps refused and passed over"
 pub record Ran : Type 0 where
@@ -113,13 +119,17 @@ unfoldable pub tally : Ran → Bool → Ran
 tally r true = record { taken = r .taken + 1; passed = r .passed }
 tally r false = record { taken = r .taken; passed = r .passed + 1 }
 
-unfoldable pub ranOne : After Ran → ℕ → After Ran
-ranOne r i = record { answer = tally (r .answer) (accepted (step i (r .bytes) .answer)); bytes = step i (r .bytes) .bytes }
+-- the stations of a list one after another, each lent "the board exactly as the call before left it"; `one` is how each
+-- is stepped
+unfoldable pub ranOne : (one : ℕ → List ℕ → After (Answer Figure)) → After Ran → ℕ → After Ran
+ranOne one r i = record { answer = tally (r .answer) (accepted (one i (r .bytes) .answer)); bytes = one i (r .bytes) .bytes }
 
--- the stations of the list one after another, each lent "the board exactly as the call before left it"
-unfoldable pub ranFrom : After Ran → List ℕ → After Ran
-ranFrom r [] = r
-ranFrom r (i ∷ is) = ranFrom (ranOne r i) is
+unfoldable pub ranFrom : (one : ℕ → List ℕ → After (Answer Figure)) → After Ran → List ℕ → After Ran
+ranFrom one r [] = r
+ranFrom one r (i ∷ is) = ranFrom one (ranOne one r i) is
+
+unfoldable pub notYet : List ℕ → After Ran
+notYet b = record { answer = record { taken = 0; passed = 0 }; bytes = b }
 
 pub data RunAnswer : Type 0 where
   ran : Ran → RunAnswer
@@ -132,4 +142,4 @@ finished r = record { answer = ran (r .answer); bytes = r .bytes }
 unfoldable pub run : (is : List ℕ) → List ℕ → After RunAnswer
 run is b =
     unlessRefused (unless (leb (length is) 65536) 6 (boardRefusal b none)) notRun b
-    (finished (ranFrom (record { answer = record { taken = 0; passed = 0 }; bytes = b }) is))
+    (finished (ranFrom step (notYet b) is))
