@@ -4,6 +4,8 @@ use mathlib.Core.List.{List, [], _∷_, _++_}
 use Prim.Native.Nat.{ℕ, zero, suc, _+_, _*_, _-_}
 use lib.ListN.{replicate}
 use lib.IntN.{pos}
+use Rattle.model.specs.declared.Record.{Record}
+use Rattle.model.specs.declared.Register as Fields
 use Rattle.model.specs.Bytes.{byte, part}
 use Rattle.model.specs.Figure.{Figure, figure, figureBytes}
 use Rattle.model.specs.Listing.{Flag, Turn, turnM, turnA, turnB, Grade, first, second, third, Array, inM, inA, inB}
@@ -33,17 +35,30 @@ recordAt n K j = 8 + 8 * (n * (1 + 2 * K)) + 24 * j
 unfoldable pub freshBoard : (n K : ℕ) → List ℕ
 freshBoard n K = n ∷ K ∷ replicate (boardLength n K - 2) 0
 
--- "A register has 8 bytes: mark, island, two zeros, figure. An empty register is all zero."
-unfoldable pub registerBytes : Register Figure → List ℕ
-registerBytes empty = replicate 8 0
-registerBytes (filled f k v) = flagNumber f ∷ k ∷ 0 ∷ 0 ∷ figureBytes v
+-- "A register has 8 bytes: mark, island, two zeros, figure."
+unfoldable pub readRegister : List ℕ → Fields.Register
+readRegister r = record { mark = byte r 0; island = byte r 1; figure = figure (part 4 4 r) }
+
+unfoldable pub layRegister : Fields.Register → List ℕ
+layRegister f = f .mark ∷ f .island ∷ 0 ∷ 0 ∷ figureBytes (f .figure)
+
+-- "An empty register is all zero. Marks: m and A 1 written; B 1 adopt, 2 commit."
+unfoldable pub registerFields : Register Figure → Fields.Register
+registerFields empty = record { mark = 0; island = 0; figure = pos 0 }
+registerFields (filled f k v) = record { mark = flagNumber f; island = k; figure = v }
 
 unfoldable pub marked-by : ℕ → (k : ℕ) → Figure → Register Figure
 marked-by zero k v = empty
 marked-by (suc f) k v = filled (flagOf (suc f)) k v
 
+unfoldable pub registerValue : Fields.Register → Register Figure
+registerValue f = marked-by (f .mark) (f .island) (f .figure)
+
+unfoldable pub registerBytes : Register Figure → List ℕ
+registerBytes r = layRegister (registerFields r)
+
 unfoldable pub register : List ℕ → Register Figure
-register r = marked-by (byte r 0) (byte r 1) (figure (part 4 4 r))
+register r = registerValue (readRegister r)
 
 -- what the collect has seen, as byte 3, byte 4 and bytes 16–19
 unfoldable pub gradeNumber : Grade → ℕ
@@ -83,40 +98,70 @@ flagByte (turnB f) = flagNumber f
 
 -- "A record: byte 0 phase; 1 next position to read; 2 island c; 3 seen; 4 best island; 5 flag to write; 6–7 zero; 8–11
 -- proposal; 12–15 carried figure; 16–19 best figure; 20–23 zero."
-unfoldable pub layRecord : (phase p c : ℕ) → Seen Figure → (flag : ℕ) (v x : Figure) → List ℕ
-layRecord phase p c a flag v x =
-    (phase ∷ p ∷ c ∷ seenNumber a ∷ bestIsland a ∷ flag ∷ 0 ∷ 0 ∷ []) ++ figureBytes v ++ figureBytes x ++ figureBytes (bestFigure a) ++ replicate 4 0
+unfoldable pub readRecord : List ℕ → Record
+readRecord r = record {
+  phase = byte r 0;
+  position = byte r 1;
+  island = byte r 2;
+  seen = byte r 3;
+  highest = byte r 4;
+  flag = byte r 5;
+  proposal = figure (part 8 4 r);
+  carried = figure (part 12 4 r);
+  best = figure (part 16 4 r);
+}
+
+unfoldable pub layRecord : Record → List ℕ
+layRecord f =
+    (f .phase ∷ f .position ∷ f .island ∷ f .seen ∷ f .highest ∷ f .flag ∷ 0 ∷ 0 ∷ [])
+    ++ figureBytes (f .proposal) ++ figureBytes (f .carried) ++ figureBytes (f .best) ++ replicate 4 0
+
+unfoldable pub fields : (phase p c : ℕ) → Seen Figure → (flag : ℕ) (v x : Figure) → Record
+fields phase p c a flag v x = record {
+  phase = phase;
+  position = p;
+  island = c;
+  seen = seenNumber a;
+  highest = bestIsland a;
+  flag = flag;
+  proposal = v;
+  carried = x;
+  best = bestFigure a;
+}
 
 -- "Idle is all zero."
+unfoldable pub recordFields : Station Figure → Record
+recordFields idle = fields 0 0 0 nothing 0 (pos 0) (pos 0)
+recordFields (active v (writing t c x)) = fields (writePhase t) 0 c nothing (flagByte t) v x
+recordFields (active v (reading t c x p a)) = fields (writePhase t + 1) p c a (flagByte t) v x
+recordFields (active v (has-decided c x)) = fields 7 0 c nothing 0 v x
+recordFields (active v (is-spent c x)) = fields 8 0 c nothing 0 v x
+
+unfoldable pub writingOf : Turn → Record → Station Figure
+writingOf t f = active (f .proposal) (writing t (f .island) (f .carried))
+
+unfoldable pub readingOf : Turn → Record → Station Figure
+readingOf t f = active (f .proposal) (reading t (f .island) (f .carried) (f .position) (seenOf (f .seen) (f .highest) (f .best)))
+
+unfoldable pub ofPhase : ℕ → Record → Station Figure
+ofPhase zero f = idle
+ofPhase (suc zero) f = writingOf turnM f
+ofPhase (suc (suc zero)) f = readingOf turnM f
+ofPhase (suc (suc (suc zero))) f = writingOf turnA f
+ofPhase (suc (suc (suc (suc zero)))) f = readingOf turnA f
+ofPhase (suc (suc (suc (suc (suc zero))))) f = writingOf (turnB (flagOf (f .flag))) f
+ofPhase (suc (suc (suc (suc (suc (suc zero)))))) f = readingOf (turnB (flagOf (f .flag))) f
+ofPhase (suc (suc (suc (suc (suc (suc (suc zero))))))) f = active (f .proposal) (has-decided (f .island) (f .carried))
+ofPhase (suc (suc (suc (suc (suc (suc (suc (suc h)))))))) f = active (f .proposal) (is-spent (f .island) (f .carried))
+
+unfoldable pub recordValue : Record → Station Figure
+recordValue f = ofPhase (f .phase) f
+
 unfoldable pub recordBytes : Station Figure → List ℕ
-recordBytes idle = replicate 24 0
-recordBytes (active v (writing t c x)) = layRecord (writePhase t) 0 c nothing (flagByte t) v x
-recordBytes (active v (reading t c x p a)) = layRecord (writePhase t + 1) p c a (flagByte t) v x
-recordBytes (active v (has-decided c x)) = layRecord 7 0 c nothing 0 v x
-recordBytes (active v (is-spent c x)) = layRecord 8 0 c nothing 0 v x
-
-unfoldable pub carried : List ℕ → Figure
-carried r = figure (part 12 4 r)
-
-unfoldable pub writingOf : Turn → List ℕ → Stage Figure
-writingOf t r = writing t (byte r 2) (carried r)
-
-unfoldable pub readingOf : Turn → List ℕ → Stage Figure
-readingOf t r = reading t (byte r 2) (carried r) (byte r 1) (seenOf (byte r 3) (byte r 4) (figure (part 16 4 r)))
-
-unfoldable pub ofPhase : ℕ → (v : Figure) → List ℕ → Station Figure
-ofPhase zero v r = idle
-ofPhase (suc zero) v r = active v (writingOf turnM r)
-ofPhase (suc (suc zero)) v r = active v (readingOf turnM r)
-ofPhase (suc (suc (suc zero))) v r = active v (writingOf turnA r)
-ofPhase (suc (suc (suc (suc zero)))) v r = active v (readingOf turnA r)
-ofPhase (suc (suc (suc (suc (suc zero))))) v r = active v (writingOf (turnB (flagOf (byte r 5))) r)
-ofPhase (suc (suc (suc (suc (suc (suc zero)))))) v r = active v (readingOf (turnB (flagOf (byte r 5))) r)
-ofPhase (suc (suc (suc (suc (suc (suc (suc zero))))))) v r = active v (has-decided (byte r 2) (carried r))
-ofPhase (suc (suc (suc (suc (suc (suc (suc (suc h)))))))) v r = active v (is-spent (byte r 2) (carried r))
+recordBytes s = layRecord (recordFields s)
 
 unfoldable pub station : List ℕ → Station Figure
-station r = ofPhase (byte r 0) (figure (part 8 4 r)) r
+station r = recordValue (readRecord r)
 
 -- the parts of a board by their place
 unfoldable pub registerOf : (n : ℕ) → Array → (j : ℕ) → List ℕ → Register Figure

@@ -126,7 +126,7 @@ module _ {F : Type 0} where
   finish K (turnB f) c second k y = stay (has-decided c y) (decided c y)
   finish K (turnB f) c third k y = onward K c y
 
-  -- A collect that ends with nothing seen does not happen on a sound board (proofs/Collect.antt, `last-read-sees`);
+  -- A collect that ends with nothing seen does not happen on a sound board (proofs/Listing/Collect.antt, `last-read-sees`);
   -- here it ends as if the station's own pair had been all there was.
   unfoldable pub ended : (K : ℕ) → Turn → (c : ℕ) (x : F) → Seen F → Move F
   ended K t c x nothing = finish K t c third c x

@@ -1,5 +1,25 @@
 // The types that the definitions in specs/ and the code of the crates above share. Nothing runs here.
 
+// A register by its fields: mark 0 (empty), 1 or 2, then island and figure.
+pub struct Register {
+    pub mark: u8,
+    pub island: u8,
+    pub figure: i32,
+}
+
+// A station's record by its fields, in the order of its bytes; `highest` is the best island.
+pub struct Record {
+    pub phase: u8,
+    pub position: u8,
+    pub island: u8,
+    pub seen: u8,
+    pub highest: u8,
+    pub flag: u8,
+    pub proposal: i32,
+    pub carried: i32,
+    pub best: i32,
+}
+
 // What a step answers: "its kind and fields". A flag is 1 for adopt and 2 for commit.
 // specs/Told.antt gives the meaning of each case; contracts speak through it.
 pub enum StepAnswer {

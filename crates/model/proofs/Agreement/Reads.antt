@@ -1,0 +1,196 @@
+-- What one read does to what a collect has seen, for any kind of register: it brings what its own register holds and
+-- keeps it, it is clean only if it was and the register is harmless, and its figures are figures that it met.
+-- Relies on the words for registers and on the listing's `see`; the moves rely on it.
+use mathlib.Core.Path.{_≡_, refl, sym}
+use mathlib.Core.Bool.{Bool, true, false, cond, _&&_, _||_}
+use mathlib.Core.Logic.{_⊎_, inl, inr}
+use Prim.Native.Nat.{ℕ, _≤_}
+use native.Mathlib.Omega.{arith}
+use lib.Dec.{eqb, ltb}
+use borrow.Author.Tests.{ltb-true, ltb-false, eqb-true}
+use Rattle.model.specs.Listing.{Order, Flag, adopt, commit, Register, empty, filled, Turn, turnM, turnA, turnB, Grade, first, second, third, Seen, nothing, seen, inM, array, entry, larger, pairAbove, add, see}
+use Rattle.model.proofs.Agreement.Cells.{on-cond}
+use Rattle.model.proofs.Agreement.Registers.{Says, Marked, Figure, Best, Met, Left, Brought, Clean, Harmless, adopt≢commit}
+
+first-or-second : (a b c : Bool) → (a || (b && c)) ≡ true → (a ≡ true) ⊎ (b ≡ true)
+first-or-second true b c e = inl refl
+first-or-second false true c e = inr refl
+first-or-second false false c e = inl e
+
+not-first : (a b : Bool) → (a || b) ≡ false → a ≡ false
+not-first true b e = e
+not-first false b e = refl
+
+module _ {F : Type 0} where
+  harmless-empty : (t : Turn) (x : F) → Harmless t x empty
+  harmless-empty turnM x = tt
+  harmless-empty turnA x = λ y h. absurd h
+  harmless-empty (turnB adopt) x = λ h. h
+  harmless-empty (turnB commit) x = λ h. h
+
+  pub left-entry : (t : Turn) (c : ℕ) (x : F) → Left t c x (entry t c x)
+  unfolding entry
+  left-entry turnM c x = omega arith
+  left-entry turnA c x = refl
+  left-entry (turnB f) c x = (refl, refl)
+
+module _ {F : Type 0} (o : Order F) where
+  -- the better of two pairs has an island at least as high as the other
+  above-high : (k : ℕ) (y : F) (j : ℕ) (x : F) → pairAbove o k y j x ≡ true → j ≤ k
+  unfolding pairAbove
+  above-high k y j x e = go (first-or-second (ltb j k) (eqb j k) (o .above y x) e)
+    where
+      go : (ltb j k ≡ true) ⊎ (eqb j k ≡ true) → j ≤ k
+      go (inl d) = omega (arith, ltb-true j k d)
+      go (inr d) = omega (arith, eqb-true j k d)
+
+  not-above-low : (k : ℕ) (y : F) (j : ℕ) (x : F) → pairAbove o k y j x ≡ false → k ≤ j
+  unfolding pairAbove
+  not-above-low k y j x e = ltb-false j k (not-first (ltb j k) (eqb j k && o .above y x) e)
+
+  larger-is : (P : F → Type 0) (x y : F) → P x → P y → P (larger o x y)
+  unfolding larger
+  larger-is P x y h k = on-cond P y x (o .above y x) (λ e. k) (λ e. h)
+
+  one-of : {A : Type 0} (x y z : F) → A → larger o x y ≡ z → (A × (x ≡ z)) ⊎ (A × (y ≡ z))
+  unfolding larger
+  one-of {A} x y z h = go (o .above y x)
+    where
+      go : (t : Bool) → cond t y x ≡ z → (A × (x ≡ z)) ⊎ (A × (y ≡ z))
+      go true e = inr (h, e)
+      go false e = inl (h, e)
+
+  -- Every figure after a read was seen before it or stood in the register.
+  pub located : (t : Turn) (c : ℕ) (a : Seen F) (r : Register F) (k : ℕ) (y : F)
+      → Best (array t c) (see o t a r) k y → Best (array t c) a k y ⊎ Figure (array t c) r k y
+  unfolding see add array
+  located t c a empty k y h = inl h
+  located turnM c nothing (filled f j z) k y h = inr h
+  located turnM c (seen g i x) (filled f j z) k y h = go (pairAbove o j z i x) h
+    where
+      go : (t : Bool) → Best inM (cond t (seen g j z) (seen g i x)) k y
+          → Best inM (seen g i x) k y ⊎ Figure inM (filled f j z) k y
+      go true h = inr h
+      go false h = inl h
+  located turnA c nothing (filled f j z) k y h = inr h
+  located turnA c (seen first i x) (filled f j z) k y h = one-of x z y (h .0) (h .1)
+  located turnA c (seen second i x) (filled f j z) k y h = one-of x z y (h .0) (h .1)
+  located turnA c (seen third i x) (filled f j z) k y h = one-of x z y (h .0) (h .1)
+  located (turnB e) c nothing (filled adopt j z) k y h = inr h
+  located (turnB e) c nothing (filled commit j z) k y h = inr h
+  located (turnB e) c (seen first i x) (filled adopt j z) k y h = one-of x z y (h .0) (h .1)
+  located (turnB e) c (seen first i x) (filled commit j z) k y h = inr h
+  located (turnB e) c (seen second i x) (filled adopt j z) k y h = inl h
+  located (turnB e) c (seen second i x) (filled commit j z) k y h = inl h
+  located (turnB e) c (seen third i x) (filled f j z) k y h = inl h
+
+  -- A commit that a collect of B has met was met before or is in the register.
+  pub met : (e : Flag) (a : Seen F) (r : Register F) (y : F)
+      → Met (see o (turnB e) a r) y → Met a y ⊎ (Marked commit r × Says r y)
+  unfolding see add
+  met e a empty y h = inl h
+  met e nothing (filled adopt j z) y h = absurd h
+  met e nothing (filled commit j z) y h = inr (refl, h)
+  met e (seen first i x) (filled adopt j z) y h = absurd h
+  met e (seen first i x) (filled commit j z) y h = inr (refl, h)
+  met e (seen second i x) (filled adopt j z) y h = inl h
+  met e (seen second i x) (filled commit j z) y h = inl (go (o .same x z) h)
+    where
+      go : (t : Bool) → Met (seen (cond t second third) i x) y → x ≡ y
+      go true h = h
+      go false h = h
+  met e (seen third i x) (filled f j z) y h = inl h
+
+  module _ (sameIs : (x y : F) → o .same x y ≡ true → x ≡ y) where
+    pub kept : (t : Turn) (c : ℕ) (x : F) (a : Seen F) (r : Register F) → Brought t c x a → Brought t c x (see o t a r)
+    unfolding see add
+    kept t c x a empty h = h
+    kept turnM c x nothing (filled f k y) h = absurd h
+    kept turnM c x (seen g j z) (filled f k y) h =
+        on-cond (λ (a : Seen F). Brought turnM c x a) _ _ (pairAbove o k y j z)
+        (λ e. omega (arith, above-high k y j z e)) (λ e. h)
+    kept turnA c x nothing (filled f k y) h = absurd h
+    kept turnA c x (seen first j z) (filled f k y) h =
+        on-cond (λ (g : Grade). Brought turnA c x (seen g j (larger o z y))) _ _ (o .same z y)
+        (λ e. larger-is (λ (w : F). w ≡ x) z y h (cc (sameIs z y e))) (λ e. tt)
+    kept turnA c x (seen second j z) (filled f k y) h = tt
+    kept turnA c x (seen third j z) (filled f k y) h = tt
+    kept (turnB adopt) c x nothing (filled f k y) h = absurd h
+    kept (turnB adopt) c x (seen first j z) (filled adopt k y) h = tt
+    kept (turnB adopt) c x (seen first j z) (filled commit k y) h = tt
+    kept (turnB adopt) c x (seen second j z) (filled f k y) h = absurd h
+    kept (turnB adopt) c x (seen third j z) (filled f k y) h = tt
+    kept (turnB commit) c x nothing (filled f k y) h = absurd h
+    kept (turnB commit) c x (seen first j z) (filled f k y) h = absurd h
+    kept (turnB commit) c x (seen second j z) (filled adopt k y) h = tt
+    kept (turnB commit) c x (seen second j z) (filled commit k y) h =
+        on-cond (λ (g : Grade). Brought (turnB commit) c x (seen g j z)) _ _ (o .same z y) (λ e. h) (λ e. tt)
+    kept (turnB commit) c x (seen third j z) (filled f k y) h = tt
+
+    pub brought : (t : Turn) (c : ℕ) (x : F) (a : Seen F) (r : Register F) → Left t c x r → Brought t c x (see o t a r)
+    unfolding see add
+    brought turnM c x a empty h = absurd h
+    brought turnM c x nothing (filled f k y) h = h
+    brought turnM c x (seen g j z) (filled f k y) h =
+        on-cond (λ (a : Seen F). Brought turnM c x a) _ _ (pairAbove o k y j z)
+        (λ e. h) (λ e. omega (arith, not-above-low k y j z e))
+    brought turnA c x a empty h = absurd h
+    brought turnA c x nothing (filled f k y) h = h
+    brought turnA c x (seen first j z) (filled f k y) h =
+        on-cond (λ (g : Grade). Brought turnA c x (seen g j (larger o z y))) _ _ (o .same z y)
+        (λ e. larger-is (λ (w : F). w ≡ x) z y (cc (sameIs z y e)) h) (λ e. tt)
+    brought turnA c x (seen second j z) (filled f k y) h = tt
+    brought turnA c x (seen third j z) (filled f k y) h = tt
+    brought (turnB e) c x a empty h = absurd (h .0)
+    brought (turnB adopt) c x nothing (filled adopt k y) h = tt
+    brought (turnB adopt) c x nothing (filled commit k y) h = absurd (adopt≢commit (sym (h .0)))
+    brought (turnB adopt) c x (seen first j z) (filled adopt k y) h = tt
+    brought (turnB adopt) c x (seen first j z) (filled commit k y) h = tt
+    brought (turnB adopt) c x (seen second j z) (filled adopt k y) h = tt
+    brought (turnB adopt) c x (seen second j z) (filled commit k y) h = absurd (adopt≢commit (sym (h .0)))
+    brought (turnB adopt) c x (seen third j z) (filled f k y) h = tt
+    brought (turnB commit) c x nothing (filled adopt k y) h = absurd (adopt≢commit (h .0))
+    brought (turnB commit) c x nothing (filled commit k y) h = h .1
+    brought (turnB commit) c x (seen first j z) (filled adopt k y) h = absurd (adopt≢commit (h .0))
+    brought (turnB commit) c x (seen first j z) (filled commit k y) h = tt
+    brought (turnB commit) c x (seen second j z) (filled adopt k y) h = tt
+    brought (turnB commit) c x (seen second j z) (filled commit k y) h =
+        on-cond (λ (g : Grade). Brought (turnB commit) c x (seen g j z)) _ _ (o .same z y)
+        (λ e. cc (sameIs z y e, h .1)) (λ e. tt)
+    brought (turnB commit) c x (seen third j z) (filled f k y) h = tt
+
+    pub clean : (t : Turn) (x : F) (a : Seen F) (r : Register F)
+        → Clean t x (see o t a r) → Clean t x a × Harmless t x r
+    unfolding see add
+    clean t x a empty h = (h, harmless-empty t x)
+    clean turnM x a (filled f k y) h = (tt, tt)
+    clean turnA x nothing (filled f k y) h = (tt, λ z e. cc)
+    clean turnA x (seen first j z) (filled f k y) h = go (o .same z y) refl h
+      where
+        go : (t : Bool) → o .same z y ≡ t → Clean turnA x (seen (cond t first second) j (larger o z y))
+            → (z ≡ x) × ((w : F) → y ≡ w → w ≡ x)
+        go true e h =
+            let d : z ≡ y = sameIs z y e in
+            let l : larger o z y ≡ z = larger-is (λ (w : F). w ≡ z) z y refl (sym d) in
+            (cc, λ w p. cc)
+        go false e h = absurd h
+    clean turnA x (seen second j z) (filled f k y) h = absurd h
+    clean turnA x (seen third j z) (filled f k y) h = absurd h
+    clean (turnB adopt) x nothing (filled adopt k y) h = (tt, adopt≢commit)
+    clean (turnB adopt) x nothing (filled commit k y) h = absurd h
+    clean (turnB adopt) x (seen first j z) (filled adopt k y) h = (tt, adopt≢commit)
+    clean (turnB adopt) x (seen first j z) (filled commit k y) h = absurd h
+    clean (turnB adopt) x (seen second j z) (filled adopt k y) h = absurd h
+    clean (turnB adopt) x (seen second j z) (filled commit k y) h = absurd (go (o .same z y) h)
+      where
+        go : (t : Bool) → Clean (turnB adopt) x (seen (cond t second third) j z) → ⊥
+        go true h = h
+        go false h = h
+    clean (turnB adopt) x (seen third j z) (filled f k y) h = absurd h
+    clean (turnB commit) x nothing (filled adopt k y) h = absurd h
+    clean (turnB commit) x nothing (filled commit k y) h = (tt, λ e. adopt≢commit (sym e))
+    clean (turnB commit) x (seen first j z) (filled adopt k y) h = absurd h
+    clean (turnB commit) x (seen first j z) (filled commit k y) h = absurd h
+    clean (turnB commit) x (seen second j z) (filled adopt k y) h = absurd h
+    clean (turnB commit) x (seen second j z) (filled commit k y) h = (tt, λ e. adopt≢commit (sym e))
+    clean (turnB commit) x (seen third j z) (filled f k y) h = absurd h

@@ -1,0 +1,108 @@
+-- What is said of one register, and of what a collect has seen so far. Relies on the listing's values alone; the facts
+-- about one read and every clause of the invariant are stated in these words.
+use mathlib.Core.Path.{_≡_}
+use Prim.Native.Nat.{ℕ, _≤_}
+use native.Mathlib.Omega.{arith}
+use Rattle.model.specs.Listing.{Flag, adopt, commit, Register, empty, filled, Turn, turnM, turnA, turnB, first, second, third, Seen, nothing, seen, Array, inM, inA, inB}
+
+-- the island of a figure that stands in array a beside the island k: only m writes islands into its registers
+abbrev pub isle : Array → ℕ → ℕ
+isle inM k = k
+isle (inA c) k = c
+isle (inB c) k = c
+
+module _ {F : Type 0} where
+  abbrev pub Filled : Register F → Type 0
+  Filled empty = ⊥
+  Filled (filled f k y) = Unit {0}
+
+  abbrev pub Says : Register F → F → Type 0
+  Says empty x = ⊥
+  Says (filled f k y) x = y ≡ x
+
+  abbrev pub Marked : Flag → Register F → Type 0
+  Marked f empty = ⊥
+  Marked f (filled g k y) = g ≡ f
+
+  abbrev pub AtLeast : ℕ → Register F → Type 0
+  AtLeast c empty = ⊥
+  AtLeast c (filled f k y) = c ≤ k
+
+  -- the register of array a holds the figure y at island k
+  abbrev pub Figure : Array → Register F → ℕ → F → Type 0
+  Figure a empty k y = ⊥
+  Figure a (filled f j x) k y = (isle a j ≡ k) × (x ≡ y)
+
+  -- the best of a collect of array a is y, at island k
+  abbrev pub Best : Array → Seen F → ℕ → F → Type 0
+  Best a nothing k y = ⊥
+  Best a (seen g j x) k y = (isle a j ≡ k) × (x ≡ y)
+
+  -- a collect of B has met a commit, and keeps its figure y
+  abbrev pub Met : Seen F → F → Type 0
+  Met nothing y = ⊥
+  Met (seen first j x) y = ⊥
+  Met (seen second j x) y = x ≡ y
+  Met (seen third j x) y = x ≡ y
+
+  -- the station's own register once the turn has written x on island c
+  abbrev pub Left : Turn → ℕ → F → Register F → Type 0
+  Left turnM c x r = AtLeast c r
+  Left turnA c x r = Says r x
+  Left (turnB f) c x r = Marked f r × Says r x
+
+  -- what a collect shows once it has read such a register: in m an island of at least c; in A only x, or several
+  -- figures; in B the station's own flag, alone or beside others
+  abbrev pub Brought : Turn → ℕ → F → Seen F → Type 0
+  Brought turnM c x nothing = ⊥
+  Brought turnM c x (seen g k y) = c ≤ k
+  Brought turnA c x nothing = ⊥
+  Brought turnA c x (seen first k y) = y ≡ x
+  Brought turnA c x (seen second k y) = Unit {0}
+  Brought turnA c x (seen third k y) = Unit {0}
+  Brought (turnB adopt) c x nothing = ⊥
+  Brought (turnB adopt) c x (seen first k y) = Unit {0}
+  Brought (turnB adopt) c x (seen second k y) = ⊥
+  Brought (turnB adopt) c x (seen third k y) = Unit {0}
+  Brought (turnB commit) c x nothing = ⊥
+  Brought (turnB commit) c x (seen first k y) = ⊥
+  Brought (turnB commit) c x (seen second k y) = y ≡ x
+  Brought (turnB commit) c x (seen third k y) = Unit {0}
+
+  -- nothing met so far speaks against x in A, against the flag in B
+  abbrev pub Clean : Turn → F → Seen F → Type 0
+  Clean turnM x a = Unit {0}
+  Clean turnA x nothing = Unit {0}
+  Clean turnA x (seen first k y) = y ≡ x
+  Clean turnA x (seen second k y) = ⊥
+  Clean turnA x (seen third k y) = ⊥
+  Clean (turnB adopt) x nothing = Unit {0}
+  Clean (turnB adopt) x (seen first k y) = Unit {0}
+  Clean (turnB adopt) x (seen second k y) = ⊥
+  Clean (turnB adopt) x (seen third k y) = ⊥
+  Clean (turnB commit) x nothing = Unit {0}
+  Clean (turnB commit) x (seen first k y) = ⊥
+  Clean (turnB commit) x (seen second k y) = Unit {0}
+  Clean (turnB commit) x (seen third k y) = ⊥
+
+  -- the register does not speak against it either
+  abbrev pub Harmless : Turn → F → Register F → Type 0
+  Harmless turnM x r = Unit {0}
+  Harmless turnA x r = (y : F) → Says r y → y ≡ x
+  Harmless (turnB adopt) x r = Marked commit r → ⊥
+  Harmless (turnB commit) x r = Marked adopt r → ⊥
+
+  pub marked-filled : (f : Flag) (r : Register F) → Marked f r → Filled r
+  marked-filled f empty h = h
+  marked-filled f (filled g k y) h = tt
+
+  pub says-filled : (r : Register F) (x : F) → Says r x → Filled r
+  says-filled empty x h = h
+  says-filled (filled g k y) x h = tt
+
+  pub says-one : (r : Register F) (x y : F) → Says r x → Says r y → x ≡ y
+  says-one empty x y h k = absurd h
+  says-one (filled g k z) x y p q = cc
+
+pub adopt≢commit : adopt ≡ commit → ⊥
+adopt≢commit e = let z : _≡_ {A = ℕ} 0 1 = cc in omega arith

@@ -1,0 +1,225 @@
+-- Encoding after decoding is the identity on sound registers and records, bytes being bytes.
+-- Relies on Numbers, Splices and soundness's clauses; it says that a sound part has one meaning and one form.
+use mathlib.Core.Path.{_≡_, refl, sym, ap, _∙_, subst}
+use mathlib.Core.Bool.{Bool, true, false, cond, _&&_, _||_}
+use mathlib.Core.Logic.{_⊎_, inl, inr, ⊎-elim}
+use mathlib.Core.List.{List, [], _∷_, _++_}
+use Prim.Native.Nat.{ℕ, zero, suc, _+_, _≤_, _<_}
+use native.Mathlib.Nat.{add-suc, add-zero}
+use native.Mathlib.Omega.{arith}
+use lib.Dec.{T, eqb, leb, ltb, leb→le, eqb→eq, eqb·suc-zero, lit≤}
+use lib.IntN.{pos}
+use lib.ListN.{length, replicate, take, drop, getD}
+use Rattle.model.specs.Bytes.{byte, part, number, digits, zeros, implies}
+use Rattle.model.specs.Figure.{Figure, figure, figureBytes}
+use Rattle.model.specs.Listing.{Flag, adopt, commit, Turn, turnM, turnA, turnB, Grade, first, second, third, Register, empty, filled}
+use Rattle.model.specs.Listing.{Seen, nothing, seen, Stage, writing, reading, has-decided, is-spent, Station, idle, active}
+use Rattle.model.specs.Told.{flagOf, flagNumber}
+use Rattle.model.specs.Layout.{layRegister, readRegister, registerFields, registerValue, registerBytes, marked-by, register, gradeNumber, seenNumber, bestIsland, bestFigure, seenOf, writePhase, flagByte}
+use Rattle.model.specs.Layout.{readRecord, layRecord, fields, recordFields, recordValue, recordBytes, writingOf, readingOf, ofPhase, station}
+use Rattle.model.specs.Sound.{registerSound, collecting, phaseKnown, flagKnown, restZero, idleZero, collectZero, bestIslandZero, bestZero, seenKnown, fieldsSound}
+use Rattle.model.proofs.Basics.Tests.{and-l, and-r, or-case, zeros-is, implies-use}
+use Rattle.model.proofs.Basics.Numbers.{Bytes, bytes-figure}
+use Rattle.model.proofs.Basics.Splices.{length-part}
+use Rattle.model.proofs.Basics.Parts.{listed, part-listed, part-join, part-whole, part-Bytes, part-zeros, zero-at}
+
+-- ---- registers
+
+register-parts : (r : List ℕ) → length r ≡ 8 → r ≡ (byte r 0 ∷ byte r 1 ∷ byte r 2 ∷ byte r 3 ∷ []) ++ part 4 4 r
+unfolding listed
+register-parts r e =
+    sym (part-whole r 8 e) ∙ part-join 0 4 4 r ∙ ap (λ (l : List ℕ). l ++ part 4 4 r) (part-listed 0 4 r (omega arith))
+
+module _ (marks islands : ℕ) (low : marks ≤ 2) (r : List ℕ) (e : length r ≡ 8) (bytes : Bytes r) where
+  filled-parts : (f : Flag) → byte r 0 ≡ flagNumber f → T (zeros (part 2 2 r)) → registerBytes (filled f (byte r 1) (figure (part 4 4 r))) ≡ r
+  unfolding registerBytes layRegister registerFields
+  filled-parts f h z =
+      (λ i. sym h i ∷ byte r 1 ∷ sym (zero-at 2 2 r (omega arith) z 0 (lit≤ tt)) i ∷ sym (zero-at 2 2 r (omega arith) z 1 (lit≤ tt)) i
+      ∷ bytes-figure (part 4 4 r) (length-part 4 4 r (omega arith)) (part-Bytes 4 4 r bytes) i)
+      ∙ sym (register-parts r e)
+
+  at-mark : (h : ℕ) → byte r 0 ≡ h → T (registerSound marks islands r)
+      → T (cond (eqb h 0) (zeros r) (leb h marks && ltb (byte r 1) islands && zeros (part 2 2 r)))
+  unfolding registerSound
+  at-mark h q t = subst (λ (m : ℕ). T (cond (eqb m 0) (zeros r) (leb m marks && ltb (byte r 1) islands && zeros (part 2 2 r)))) q t
+
+  above-two : (k : ℕ) → byte r 0 ≡ suc (suc (suc k)) → T (registerSound marks islands r) → ⊥
+  above-two k q t =
+      let s = subst (λ (m : Bool). T (cond m (zeros r) (leb (suc (suc (suc k))) marks && ltb (byte r 1) islands && zeros (part 2 2 r)))) (eqb·suc-zero (suc (suc k))) (at-mark (suc (suc (suc k))) q t) in
+      let l = leb→le (suc (suc (suc k))) marks (search (and-l, and-r)) in
+      omega arith
+
+  marked : (h : ℕ) → byte r 0 ≡ h → T (registerSound marks islands r) → registerBytes (marked-by h (byte r 1) (figure (part 4 4 r))) ≡ r
+  unfolding marked-by flagOf registerBytes layRegister registerFields figureBytes digits flagNumber
+  marked zero q t = sym (zeros-is r (at-mark 0 q t) ∙ ap (λ (k : ℕ). replicate k 0) e)
+  marked (suc zero) q t = filled-parts adopt q (let s = at-mark 1 q t in search (and-l, and-r))
+  marked (suc (suc zero)) q t = filled-parts commit q (let s = at-mark 2 q t in search (and-l, and-r))
+  marked (suc (suc (suc k))) q t = absurd (above-two k q t)
+
+  pub bytes-register : T (registerSound marks islands r) → registerBytes (register r) ≡ r
+  unfolding register registerValue readRegister
+  bytes-register t = marked (byte r 0) refl t
+
+-- ---- records
+
+module _ (r : List ℕ) (e : length r ≡ 24) (bytes : Bytes r) where
+  record-parts : r ≡ (byte r 0 ∷ byte r 1 ∷ byte r 2 ∷ byte r 3 ∷ byte r 4 ∷ byte r 5 ∷ byte r 6 ∷ byte r 7 ∷ []) ++ part 8 4 r ++ part 12 4 r ++ part 16 4 r ++ part 20 4 r
+  unfolding listed
+  record-parts =
+      sym (part-whole r 24 e) ∙ part-join 0 20 4 r
+      ∙ ap (λ (l : List ℕ). l ++ part 20 4 r)
+      (part-join 0 16 4 r
+      ∙ ap (λ (l : List ℕ). l ++ part 16 4 r)
+      (part-join 0 12 4 r
+      ∙ ap (λ (l : List ℕ). l ++ part 12 4 r)
+      (part-join 0 8 4 r ∙ ap (λ (l : List ℕ). l ++ part 8 4 r) (part-listed 0 8 r (omega arith)))))
+
+  figure-at : (at : ℕ) → at + 4 ≤ 24 → figureBytes (figure (part at 4 r)) ≡ part at 4 r
+  figure-at at h = bytes-figure (part at 4 r) (length-part at 4 r (omega arith)) (part-Bytes at 4 r bytes)
+
+  -- the fields of a record one by one
+  lay-parts : (phase p : ℕ) (a : Seen Figure) (flag : ℕ) → phase ≡ byte r 0 → p ≡ byte r 1 → seenNumber a ≡ byte r 3 → bestIsland a ≡ byte r 4
+      → flag ≡ byte r 5 → figureBytes (bestFigure a) ≡ part 16 4 r → T (restZero (byte r 0) r)
+      → layRecord (fields phase p (byte r 2) a flag (figure (part 8 4 r)) (figure (part 12 4 r))) ≡ r
+  unfolding layRecord fields restZero
+  lay-parts phase p a flag e0 e1 e3 e4 e5 e16 z =
+      (λ i. (e0 i ∷ e1 i ∷ byte r 2 ∷ e3 i ∷ e4 i ∷ e5 i ∷ six i ∷ seven i ∷ []) ++ figure-at 8 (lit≤ tt) i ++ figure-at 12 (lit≤ tt) i ++ e16 i ++ last i)
+      ∙ sym record-parts
+    where
+      front : T (zeros (part 6 2 r))
+      front = and-l (zeros (part 6 2 r)) (zeros (part 20 4 r)) z
+
+      six : 0 ≡ byte r 6
+      six = sym (zero-at 6 2 r (omega arith) front 0 (lit≤ tt))
+
+      seven : 0 ≡ byte r 7
+      seven = sym (zero-at 6 2 r (omega arith) front 1 (lit≤ tt))
+
+      last : replicate 4 0 ≡ part 20 4 r
+      last = sym (part-zeros 20 4 r (omega arith) (and-r (zeros (part 6 2 r)) (zeros (part 20 4 r)) z))
+
+-- what the seen fields decode to encodes to them
+seen-number : (g k : ℕ) (y : Figure) → g ≤ 3 → seenNumber (seenOf g k y) ≡ g
+unfolding seenOf seenNumber gradeNumber
+seen-number zero k y h = refl
+seen-number (suc zero) k y h = refl
+seen-number (suc (suc zero)) k y h = refl
+seen-number (suc (suc (suc g))) k y h = omega arith
+
+best-island : (g k : ℕ) (y : Figure) → (g ≡ 0 → k ≡ 0) → bestIsland (seenOf g k y) ≡ k
+unfolding seenOf bestIsland
+best-island zero k y h = sym (h refl)
+best-island (suc zero) k y h = refl
+best-island (suc (suc zero)) k y h = refl
+best-island (suc (suc (suc g))) k y h = refl
+
+best-figure : (g k : ℕ) (y : Figure) (l : List ℕ) → figureBytes y ≡ l → (g ≡ 0 → l ≡ replicate 4 0) → figureBytes (bestFigure (seenOf g k y)) ≡ l
+unfolding seenOf bestFigure figureBytes digits
+best-figure zero k y l e h = sym (h refl)
+best-figure (suc zero) k y l e h = e
+best-figure (suc (suc zero)) k y l e h = e
+best-figure (suc (suc (suc g))) k y l e h = e
+
+flag-byte : (k : ℕ) → T (eqb k 1 || eqb k 2) → flagNumber (flagOf k) ≡ k
+unfolding flagOf flagNumber
+flag-byte zero t = absurd t
+flag-byte (suc zero) t = refl
+flag-byte (suc (suc k)) t =
+    ⊎-elim (λ (s : T (eqb (suc (suc k)) 1)). absurd (omega (arith, eqb→eq (suc (suc k)) 1 s)))
+    (λ (s : T (eqb (suc (suc k)) 2)). sym (eqb→eq (suc (suc k)) 2 s)) (or-case (eqb (suc (suc k)) 1) (eqb (suc (suc k)) 2) t)
+
+-- The clauses on zeros out of the conjunction, at a phase.
+module _ (n K phase : ℕ) (r : List ℕ) (t : T (fieldsSound n K phase r)) where
+  known-fact : T (phaseKnown phase r)
+  unfolding fieldsSound
+  known-fact = search (and-l, and-r) depth 12
+
+  flag-fact : T (flagKnown phase r)
+  unfolding fieldsSound
+  flag-fact = search (and-l, and-r) depth 12
+
+  rest-fact : T (restZero phase r)
+  unfolding fieldsSound
+  rest-fact = search (and-l, and-r) depth 12
+
+  idle-fact : T (idleZero phase r)
+  unfolding fieldsSound
+  idle-fact = search (and-l, and-r) depth 12
+
+  collect-fact : T (collectZero phase r)
+  unfolding fieldsSound
+  collect-fact = search (and-l, and-r) depth 12
+
+  island-zero-fact : T (bestIslandZero phase r)
+  unfolding fieldsSound
+  island-zero-fact = search (and-l, and-r) depth 12
+
+  best-zero-fact : T (bestZero phase r)
+  unfolding fieldsSound
+  best-zero-fact = search (and-l, and-r) depth 12
+
+  seen-known-fact : T (seenKnown phase r)
+  unfolding fieldsSound
+  seen-known-fact = search (and-l, and-r) depth 12
+
+-- a phase outside the collects
+resting-parts : (n K phase : ℕ) (r : List ℕ) (e : length r ≡ 24) (bytes : Bytes r) → phase ≡ byte r 0 → T (fieldsSound n K phase r)
+    → collecting phase r ≡ false → eqb phase 2 ≡ false → (flag : ℕ) → flag ≡ byte r 5
+    → layRecord (fields phase 0 (byte r 2) nothing flag (figure (part 8 4 r)) (figure (part 12 4 r))) ≡ r
+unfolding seenNumber bestIsland bestFigure figureBytes digits collectZero bestIslandZero restZero
+resting-parts n K phase r e bytes h t c m flag ef =
+    lay-parts r e bytes phase 0 nothing flag h (sym (eqb→eq (byte r 1) 0 (search (and-l, and-r, zero-parts)))) (sym (eqb→eq (byte r 3) 0 (search (and-l, and-r, zero-parts))))
+    (sym (eqb→eq (byte r 4) 0 island)) ef (sym (part-zeros 16 4 r (omega arith) (search (and-l, and-r, zero-parts)))) (rest-fact n K phase r t)
+  where
+    zero-parts : T (eqb (byte r 1) 0 && eqb (byte r 3) 0 && zeros (part 16 4 r))
+    zero-parts = subst (λ (b : Bool). T (b || (eqb (byte r 1) 0 && eqb (byte r 3) 0 && zeros (part 16 4 r)))) c (collect-fact n K phase r t)
+
+    island : T (eqb (byte r 4) 0)
+    island = subst (λ (b : Bool). T (b || eqb (byte r 4) 0)) m (island-zero-fact n K phase r t)
+
+-- a phase in a collect
+reading-parts : (n K phase : ℕ) (r : List ℕ) (e : length r ≡ 24) (bytes : Bytes r) → phase ≡ byte r 0 → T (fieldsSound n K phase r)
+    → byte r 3 ≤ 3 → (flag : ℕ) → flag ≡ byte r 5
+    → layRecord (fields phase (byte r 1) (byte r 2) (seenOf (byte r 3) (byte r 4) (figure (part 16 4 r))) flag (figure (part 8 4 r)) (figure (part 12 4 r))) ≡ r
+unfolding bestZero restZero
+reading-parts n K phase r e bytes h t s flag ef =
+    lay-parts r e bytes phase (byte r 1) (seenOf (byte r 3) (byte r 4) (figure (part 16 4 r))) flag h refl
+    (seen-number (byte r 3) (byte r 4) _ s) (best-island (byte r 3) (byte r 4) _ (λ z. eqb→eq (byte r 4) 0 (and-l (eqb (byte r 4) 0) (zeros (part 16 4 r)) (unseen z))))
+    ef
+    (best-figure (byte r 3) (byte r 4) _ (part 16 4 r) (bytes-figure (part 16 4 r) (length-part 16 4 r (omega arith)) (part-Bytes 16 4 r bytes))
+    (λ z. part-zeros 16 4 r (omega arith) (and-r (eqb (byte r 4) 0) (zeros (part 16 4 r)) (unseen z))))
+    (rest-fact n K phase r t)
+  where
+    unseen : byte r 3 ≡ 0 → T (eqb (byte r 4) 0 && zeros (part 16 4 r))
+    unseen z =
+        implies-use (eqb (byte r 3) 0) (eqb (byte r 4) 0 && zeros (part 16 4 r)) (best-zero-fact n K phase r t)
+        (subst (λ (k : ℕ). T (eqb k 0)) (sym z) tt)
+
+above-eight : (k : ℕ) → T (leb (suc (suc (suc (suc (suc (suc (suc (suc (suc k))))))))) 8) → ⊥
+above-eight k t = omega (arith, leb→le (suc (suc (suc (suc (suc (suc (suc (suc (suc k))))))))) 8 t)
+
+idle-form : layRecord (fields 0 0 0 nothing 0 (pos 0) (pos 0)) ≡ replicate 24 0
+unfolding layRecord fields seenNumber bestIsland bestFigure figureBytes digits
+idle-form = refl
+
+-- by the phase
+module _ (n K : ℕ) (r : List ℕ) (e : length r ≡ 24) (bytes : Bytes r) where
+  phase-canon : (phase : ℕ) → phase ≡ byte r 0 → T (fieldsSound n K phase r) → recordBytes (ofPhase phase (readRecord r)) ≡ r
+  unfolding readRecord recordFields ofPhase writingOf readingOf recordBytes writePhase flagByte flagKnown idleZero seenKnown implies phaseKnown collecting
+  phase-canon zero h t = idle-form ∙ sym (zeros-is r (idle-fact n K 0 r t) ∙ ap (λ (k : ℕ). replicate k 0) e)
+  phase-canon (suc zero) h t = resting-parts n K 1 r e bytes h t refl refl 0 (sym (eqb→eq (byte r 5) 0 (flag-fact n K 1 r t)))
+  phase-canon (suc (suc zero)) h t =
+      reading-parts n K 2 r e bytes h t (omega (arith, leb→le (byte r 3) 1 (seen-known-fact n K 2 r t))) 0 (sym (eqb→eq (byte r 5) 0 (flag-fact n K 2 r t)))
+  phase-canon (suc (suc (suc zero))) h t = resting-parts n K 3 r e bytes h t refl refl 0 (sym (eqb→eq (byte r 5) 0 (flag-fact n K 3 r t)))
+  phase-canon (suc (suc (suc (suc zero)))) h t =
+      reading-parts n K 4 r e bytes h t (omega (arith, leb→le (byte r 3) 2 (seen-known-fact n K 4 r t))) 0 (sym (eqb→eq (byte r 5) 0 (flag-fact n K 4 r t)))
+  phase-canon (suc (suc (suc (suc (suc zero))))) h t = resting-parts n K 5 r e bytes h t refl refl _ (flag-byte (byte r 5) (flag-fact n K 5 r t))
+  phase-canon (suc (suc (suc (suc (suc (suc zero)))))) h t =
+      reading-parts n K 6 r e bytes h t (leb→le (byte r 3) 3 (seen-known-fact n K 6 r t)) _ (flag-byte (byte r 5) (flag-fact n K 6 r t))
+  phase-canon (suc (suc (suc (suc (suc (suc (suc zero))))))) h t = resting-parts n K 7 r e bytes h t refl refl 0 (sym (eqb→eq (byte r 5) 0 (flag-fact n K 7 r t)))
+  phase-canon (suc (suc (suc (suc (suc (suc (suc (suc zero)))))))) h t = resting-parts n K 8 r e bytes h t refl refl 0 (sym (eqb→eq (byte r 5) 0 (flag-fact n K 8 r t)))
+  phase-canon (suc (suc (suc (suc (suc (suc (suc (suc (suc k))))))))) h t = absurd (above-eight k (known-fact n K (suc (suc (suc (suc (suc (suc (suc (suc (suc k))))))))) r t))
+
+  pub bytes-station : T (fieldsSound n K (byte r 0) r) → recordBytes (station r) ≡ r
+  unfolding station recordValue readRecord
+  bytes-station t = phase-canon (byte r 0) refl t

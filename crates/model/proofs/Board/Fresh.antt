@@ -1,0 +1,71 @@
+-- A fresh board is sound: every part of it past n and K is zero.
+-- Relies on Splices, Places, Keeps; the laws of laying rely on it.
+use mathlib.Core.Path.{_≡_, refl, sym, ap, _∙_, subst, subst⁻¹}
+use mathlib.Core.List.{List, [], _∷_}
+use Prim.Native.Nat.{ℕ, zero, suc, _+_, _*_, _-_, _≤_, _<_}
+use native.Mathlib.Nat.{mul-le-mul-left}
+use native.Mathlib.Omega.{arith}
+use lib.Dec.{T, lit≤, lit<}
+use lib.ListN.{length, replicate, length-replicate, getD, getD-replicate}
+use lib.Seq.{ext-getD, drop-drop}
+use Rattle.model.specs.Bytes.{byte, part, zeros, digits}
+use Rattle.model.specs.Figure.{Figure, figureBytes}
+use Rattle.model.specs.Listing.{Station, idle, Array, inM, inA, inB}
+use Rattle.model.specs.Layout.{boardLength, registerAt, recordAt, freshBoard, fields, recordFields, layRecord, seenNumber, bestIsland, bestFigure, recordBytes, recordOf}
+use Rattle.model.specs.Sound.{headSound, registerSound, marksIn, islandsIn, ownWritten, ownPassed, recordSound}
+use Rattle.model.proofs.Basics.Tests.{zeros-replicate}
+use Rattle.model.proofs.Basics.Splices.{length-part, byte-part}
+use Rattle.model.proofs.Board.Places.{InBoard, register-fits, record-inside, head-first, head-before-records}
+use Rattle.model.proofs.Board.Boards.{registerPart}
+use Rattle.model.proofs.Board.Codec.{FitsStation}
+use Rattle.model.proofs.Board.Good.{GoodStation}
+use Rattle.model.proofs.Board.SoundFacts.{registerTest, SoundBoard}
+use Rattle.model.proofs.Board.Values.{SoundStation}
+use Rattle.model.proofs.Board.Keeps.{record-sound}
+
+module _ (n K : ℕ) where
+  pub length-fresh : length (freshBoard n K) ≡ boardLength n K
+  unfolding freshBoard boardLength
+  length-fresh = omega (arith, length-replicate {A = ℕ} (8 + 32 * n + 16 * (n * K) - 2) 0)
+
+  byte-fresh : (k : ℕ) → 2 ≤ k → k < boardLength n K → byte (freshBoard n K) k ≡ 0
+  unfolding freshBoard
+  byte-fresh zero h l = absurd (omega arith)
+  byte-fresh (suc zero) h l = absurd (omega arith)
+  byte-fresh (suc (suc k)) h l = getD-replicate (boardLength n K - 2) k 0 0 (omega arith)
+
+  pub part-fresh : (at len : ℕ) → 2 ≤ at → at + len ≤ boardLength n K → part at len (freshBoard n K) ≡ replicate len 0
+  part-fresh at len h l =
+      ext-getD 0 (part at len (freshBoard n K)) (replicate len 0) (size ∙ sym (length-replicate len 0))
+      (λ (i : ℕ) (k : i < length (part at len (freshBoard n K))).
+      let j : i < len = omega (arith, size) in
+      byte-part at len (freshBoard n K) i j ∙ byte-fresh (at + i) (omega arith) (omega arith) ∙ sym (getD-replicate len i 0 0 j))
+    where
+      size : length (part at len (freshBoard n K)) ≡ len
+      size = length-part at len (freshBoard n K) (omega (arith, length-fresh))
+
+  empty-sound : (a : Array) → T (registerTest K a (replicate 8 0))
+  unfolding registerTest registerSound zeros
+  empty-sound a = tt
+
+  pub fresh-idle : (i : ℕ) → i < n → recordOf n K i (freshBoard n K) ≡ recordBytes idle
+  unfolding recordOf recordBytes recordFields fields layRecord seenNumber bestIsland bestFigure figureBytes digits
+  fresh-idle i h = part-fresh (recordAt n K i) 24 (omega (arith, head-before-records n K i)) (record-inside n K i h)
+
+  pub fresh-empty : (a : Array) → InBoard K a → (j : ℕ) → j < n → registerPart n a j (freshBoard n K) ≡ replicate 8 0
+  unfolding registerPart
+  fresh-empty a h j l = part-fresh (registerAt n a j) 8 (omega (arith, head-first n K a j)) (register-fits n K a j h l)
+
+  idle-sound : (i : ℕ) → SoundStation n K i (freshBoard n K) idle
+  unfolding GoodStation ownWritten ownPassed
+  idle-sound i = record { good = tt; written = tt; passed = tt }
+
+  pub fresh-sound : 0 < n → 0 < K → SoundBoard n K (freshBoard n K)
+  unfolding headSound FitsStation
+  fresh-sound hn hK = record {
+    len = length-fresh;
+    head = subst⁻¹ (λ (l : List ℕ). T (zeros l)) (part-fresh 2 6 (lit≤ tt) (omega (arith, record-inside n K 0 hn, head-before-records n K 0))) (zeros-replicate 6);
+    registers = λ a h j l. subst⁻¹ (λ (r : List ℕ). T (registerTest K a r)) (fresh-empty a h j l) (empty-sound a);
+    records = λ j h.
+        subst⁻¹ (λ (r : List ℕ). T (recordSound n K j (freshBoard n K) r)) (fresh-idle j h) (record-sound n K hn hK j (freshBoard n K) idle tt (idle-sound j));
+  }

@@ -1,0 +1,8 @@
+-- The calls: refusals in order, soundness kept, locality, runs.
+pub mod Access
+pub mod StepKeeps
+pub mod Refusals
+pub mod CallsKeep
+pub mod Refused
+pub mod Local
+pub mod Runs

@@ -1,0 +1,126 @@
+-- The refusals in checking order: what passing them says, and that they do not depend on what is asked later.
+-- Relies on the calls' definitions and SoundFacts; the laws of the calls rely on it, and so do the code's proofs.
+use mathlib.Core.Path.{_≡_, refl, sym, ap, _∙_, subst}
+use mathlib.Core.Bool.{Bool, true, false, _&&_}
+use mathlib.Core.Logic.{_⊎_, inl, inr, ⊎-elim}
+use mathlib.Core.List.{List}
+use mathlib.Core.Option.{Option, none, some}
+use Prim.Native.Nat.{ℕ, _-_, _≤_, _<_}
+use native.Mathlib.Omega.{arith}
+use lib.Dec.{T, eqb, leb, leb→le, le→leb, eqb→eq}
+use lib.ListN.{length}
+use Rattle.model.specs.Layout.{boardLength}
+use Rattle.model.specs.Sound.{sound}
+use Rattle.model.specs.Calls.{After, Refusal, unless, shapeRefusal, stations, islands, boardRefusal, stationRefusal, unlessRefused, stepOn, step}
+use Rattle.model.specs.Listing.{refused}
+use Rattle.model.proofs.Basics.Tests.{and-l, and-r, and-i, T-true, eq-T}
+use Rattle.model.proofs.Board.SoundFacts.{SoundBoard, sound-facts, facts-sound}
+
+pub some-none : {A : Type 0} {X : Type 0} (k : A) → some k ≡ none → X
+some-none k e = absurd (let z : _≡_ {A = ℕ} 0 1 = cc in omega arith)
+
+-- A refusal is none or has a number.
+pub refusal-case : (r : Refusal) → (r ≡ none) ⊎ ((k : ℕ) × (r ≡ some k))
+refusal-case none = inl refl
+refusal-case (some k) = inr (k, refl)
+
+-- A check that passes goes on to the later ones.
+pub unless-passes : (t : Bool) (k : ℕ) (later : Refusal) → T t → unless t k later ≡ later
+unfolding unless
+unless-passes true k later h = refl
+unless-passes false k later h = absurd h
+
+pub unless-none : (t : Bool) (k : ℕ) (later : Refusal) → unless t k later ≡ none → T t × (later ≡ none)
+unfolding unless
+unless-none true k later e = (tt, e)
+unless-none false k later e = some-none k e
+
+-- 7 to 10 are passed.
+pub record Shape (n K : ℕ) (b : List ℕ) : Type 0 where
+  pub long : 8 ≤ length b
+  pub stations-low : 1 ≤ n
+  pub stations-high : n ≤ 16
+  pub islands-low : 2 ≤ K
+  pub islands-high : K ≤ 64
+  pub len : length b ≡ boardLength n K
+
+within : (low high x : ℕ) → T (leb low x && leb x high) → (low ≤ x) × (x ≤ high)
+within low high x t = (leb→le low x (and-l (leb low x) (leb x high) t), leb→le x high (and-r (leb low x) (leb x high) t))
+
+within-T : (low high x : ℕ) → low ≤ x → x ≤ high → T (leb low x && leb x high)
+within-T low high x h l = and-i (leb low x) (leb x high) (le→leb low x h) (le→leb x high l)
+
+module _ (n K : ℕ) (b : List ℕ) where
+  pub shape-of : (later : Refusal) → shapeRefusal n K b later ≡ none → Shape n K b × (later ≡ none)
+  unfolding shapeRefusal
+  shape-of later e7 =
+      let s7 = unless-none (leb 8 (length b)) 7 _ e7 in
+      let s8 = unless-none (leb 1 n && leb n 16) 8 _ (s7 .1) in
+      let s9 = unless-none (leb 2 K && leb K 64) 9 _ (s8 .1) in
+      let s10 = unless-none (eqb (length b) (boardLength n K)) 10 later (s9 .1) in (
+        record {
+          long = leb→le 8 (length b) (s7 .0);
+          stations-low = within 1 16 n (s8 .0) .0;
+          stations-high = within 1 16 n (s8 .0) .1;
+          islands-low = within 2 64 K (s9 .0) .0;
+          islands-high = within 2 64 K (s9 .0) .1;
+          len = eqb→eq (length b) (boardLength n K) (s10 .0);
+        },
+        s10 .1,
+      )
+
+  pub shape-passes : Shape n K b → (later : Refusal) → shapeRefusal n K b later ≡ later
+  unfolding shapeRefusal
+  shape-passes s later =
+      unless-passes (leb 8 (length b)) 7 _ (le→leb 8 (length b) (s .long))
+      ∙ unless-passes (leb 1 n && leb n 16) 8 _ (within-T 1 16 n (s .stations-low) (s .stations-high))
+      ∙ unless-passes (leb 2 K && leb K 64) 9 _ (within-T 2 64 K (s .islands-low) (s .islands-high))
+      ∙ unless-passes (eqb (length b) (boardLength n K)) 10 later (eq-T (length b) (boardLength n K) (s .len))
+
+-- 7 to 11 are passed: what every call but laying asks of a board.
+pub record Board (b : List ℕ) : Type 0 where
+  pub shape : Shape (stations b) (islands b) b
+  pub sound-board : SoundBoard (stations b) (islands b) b
+
+pub board-of : (b : List ℕ) (later : Refusal) → boardRefusal b later ≡ none → Board b × (later ≡ none)
+unfolding boardRefusal
+board-of b later e =
+    let s = shape-of (stations b) (islands b) b _ e in
+    let t = unless-none (sound (stations b) (islands b) b) 11 later (s .1) in
+    (record { shape = s .0; sound-board = sound-facts (stations b) (islands b) b (s .0 .len) (t .0) }, t .1)
+
+pub board-passes : (b : List ℕ) → Board b → (later : Refusal) → boardRefusal b later ≡ later
+unfolding boardRefusal
+board-passes b h later =
+    shape-passes (stations b) (islands b) b (h .shape) _
+    ∙ unless-passes (sound (stations b) (islands b) b) 11 later (facts-sound (stations b) (islands b) b (h .sound-board))
+
+-- 12 is passed: the station is on the board.
+pub record OnBoard (i : ℕ) (b : List ℕ) : Type 0 where
+  pub low : 1 ≤ i
+  pub high : i ≤ stations b
+
+pub station-of : (i : ℕ) (b : List ℕ) (later : Refusal) → stationRefusal i b later ≡ none → OnBoard i b × (later ≡ none)
+unfolding stationRefusal
+station-of i b later e =
+    let t = unless-none (leb 1 i && leb i (stations b)) 12 later e in
+    (record { low = within 1 (stations b) i (t .0) .0; high = within 1 (stations b) i (t .0) .1 }, t .1)
+
+pub station-passes : (i : ℕ) (b : List ℕ) → OnBoard i b → (later : Refusal) → stationRefusal i b later ≡ later
+unfolding stationRefusal
+station-passes i b h later = unless-passes (leb 1 i && leb i (stations b)) 12 later (within-T 1 (stations b) i (h .low) (h .high))
+
+pub index-inside : (i : ℕ) (b : List ℕ) → OnBoard i b → i - 1 < stations b
+index-inside i b h = omega (arith, h .low, h .high)
+
+-- A call is its refusal, with the bytes as they were, or what it does.
+pub call-case : {A : Type 0} (P : After A → Type 0) (r : Refusal) (turnDown : ℕ → A) (b : List ℕ) (ok : After A)
+    → (r ≡ none → P ok) → ((k : ℕ) → r ≡ some k → P (record { answer = turnDown k; bytes = b })) → P (unlessRefused r turnDown b ok)
+unfolding unlessRefused
+call-case P none turnDown b ok f g = f refl
+call-case P (some k) turnDown b ok f g = g k refl
+
+-- A step on a board known to be sound need not test it.
+pub step-on : (i : ℕ) (b : List ℕ) → Board b → step i b ≡ stepOn i b
+unfolding step unlessRefused
+step-on i b h = ap (λ (r : Refusal). unlessRefused r refused b (stepOn i b)) (board-passes b h none)

@@ -1,0 +1,6 @@
+-- One access of the listing: what a read and a move keep.
+pub mod Collect
+pub mod Written
+pub mod Order
+pub mod OneRead
+pub mod Moves

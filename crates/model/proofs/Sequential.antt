@@ -1,0 +1,12 @@
+-- The sequential run: one station at a time, each to its end, over any type of figures.
+pub mod Turns
+pub mod Registers
+pub mod Collected
+pub mod CollectM
+pub mod CollectA
+pub mod CollectB
+pub mod Alone
+pub mod Pass
+pub mod Between
+pub mod OneTurn
+pub mod Sequential

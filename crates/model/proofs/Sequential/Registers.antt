@@ -1,0 +1,90 @@
+-- Predicates of the registers of an array, and what a write by one station changes of them.
+-- Relies on the state; what a collect sees and the states between turns rely on it.
+use mathlib.Core.Path.{_≡_, refl}
+use mathlib.Core.Bool.{Bool, true, false, cond, _&&_}
+use mathlib.Core.Option.{some}
+use Prim.Native.Nat.{ℕ, _<_}
+use native.Mathlib.Omega.{arith}
+use lib.Dec.{eqb}
+use borrow.Author.Tests.{eq-eqb, ne-eqb}
+use Rattle.model.specs.Listing.{Flag, commit, Register, empty, filled, Array, inM, inA, inB}
+use Rattle.model.proofs.Agreement.State.{put, sameArray, putWritten}
+
+-- a choice of two has what both have
+pub either : {A : Type 0} (P : A → Type 0) (t : Bool) {x y : A} → P x → P y → P (cond t x y)
+either P true px py = px
+either P false px py = py
+
+pub put-put : {A : Type 0} (i : ℕ) (a b : A) (f : ℕ → A) → put i a (put i b f) ≡ put i a f
+unfolding put
+put-put i a b f = λ d j. same (eqb i j) (f j) d
+  where
+    same : (t : Bool) (z : _) → cond t a (cond t b z) ≡ cond t a z
+    same true z = refl
+    same false z = refl
+
+same-array : (a : Array) → sameArray a a ≡ true
+unfolding sameArray
+same-array inM = refl
+same-array (inA k) = eq-eqb k k refl
+same-array (inB k) = eq-eqb k k refl
+
+abbrev pub Registers : Type 0 → Type 0
+Registers F = Array → ℕ → Register F
+
+module _ {F : Type 0} where
+  -- a register is empty, or has Q of its mark, island and figure
+  unfoldable pub Holds : (Flag → ℕ → F → Type 0) → Register F → Type 0
+  Holds Q empty = Unit
+  Holds Q (filled f k y) = Q f k y
+
+  -- the first n registers of an array
+  abbrev pub All : ℕ → (Flag → ℕ → F → Type 0) → (ℕ → Register F) → Type 0
+  All n Q r = (j : ℕ) → j < n → Holds Q (r j)
+
+  -- filled with v; filled with a commit of v
+  abbrev pub Figure : F → Flag → ℕ → F → Type 0
+  Figure v f k y = y ≡ v
+
+  abbrev pub Commit : F → Flag → ℕ → F → Type 0
+  Commit v f k y = (f ≡ commit) × (y ≡ v)
+
+  pub all-map : (n : ℕ) (Q S : Flag → ℕ → F → Type 0) → ((f : Flag) (k : ℕ) (y : F) → Q f k y → S f k y)
+      → (r : ℕ → Register F) → All n Q r → All n S r
+  unfolding Holds
+  all-map n Q S g r all j l = one (r j) (all j l)
+    where
+      one : (z : Register F) → Holds Q z → Holds S z
+      one empty h = tt
+      one (filled f k y) h = g f k y h
+
+  -- one more register with Q
+  pub all-put : (n : ℕ) (Q : Flag → ℕ → F → Type 0) (i : ℕ) (f : Flag) (k : ℕ) (y : F) (r : ℕ → Register F)
+      → Q f k y → All n Q r → All n Q (put i (filled f k y) r)
+  unfolding put Holds
+  all-put n Q i f k y r q all j l = either (Holds Q) (eqb i j) q (all j l)
+
+  -- an empty register and a filled one are of two stations
+  pub two-stations : (r : ℕ → Register F) (i j : ℕ) (f : Flag) (k : ℕ) (y : F)
+      → r i ≡ empty → r j ≡ filled f k y → i ≡ j → ⊥
+  two-stations r i j f k y p q e = let z : _≡_ {A = ℕ} 0 1 = cc in omega arith
+
+  -- the registers after station i wrote r in array a
+  abbrev pub write : Array → ℕ → Register F → Registers F → Registers F
+  write a i r f = putWritten a i (some r) f
+
+  pub write-at : (a : Array) (i : ℕ) (r : Register F) (f : Registers F) → write a i r f a ≡ put i r (f a)
+  unfolding putWritten put
+  write-at a i r f = λ d j. cond (same-array a d && eqb i j) r (f a j)
+
+  -- f and g differ at most in the registers of station i
+  abbrev pub Apart : ℕ → Registers F → Registers F → Type 0
+  Apart i f g = (a : Array) (j : ℕ) → (i ≡ j → ⊥) → g a j ≡ f a j
+
+  pub apart-write : (i : ℕ) (f g : Registers F) (a : Array) (r : Register F) → Apart i f g → Apart i f (write a i r g)
+  unfolding putWritten
+  apart-write i f g a r h b j ne = rw (ne-eqb i j ne) (other (sameArray a b))
+    where
+      other : (t : Bool) → cond (t && false) r (g b j) ≡ f b j
+      other true = h b j ne
+      other false = h b j ne
