@@ -5,7 +5,7 @@ use Rattle.model.specs.Starred.{Starred, Holds, rows, play, times, propo
 use Rattle.model.specs.Bytes.{number, digits, part, splice, zeros, every, implies}
 use Rattle.model.specs.Figure.{figure, figureBytes, sameFigure, above, figures}
 use Rattle.model.specs.Listing.{array, placeArray, placeColumn, accepted, entry, proposed, stay, onward, finish, ended, larger, pairAbove, add, see, move}
-use Rattle.model.specs.Told.{flagOf, flagNumber}
+use Rattle.model.specs.Listing.{flagOf, flagNumber}
 use Rattle.model.specs.Layout.{boardLength, rowOf, registerAt, recordAt, freshBoard, readRegister, layRegister, registerFields, registerValue, registerBytes, marked-by, register, gradeNumber, seenNumber}
 use Rattle.model.specs.Layout.{bestIsland, bestFigure, seenOf, writePhase, flagByte, readRecord, layRecord, fields, recordFields, recordValue, recordBytes, writingOf, readingOf}
 use Rattle.model.specs.Layout.{ofPhase, station, registerOf, recordOf, stationOf}

@@ -11,7 +11,7 @@ use Rattle.model.specs.Figure.{Figure, figure, figureBytes}
 use Rattle.model.specs.Listing.{Flag, Turn, turnM, turnA, turnB, Grade, first, second, third, Array, inM, inA, inB}
 use Rattle.model.specs.Listing.{Register, empty, filled, Seen, nothing, seen}
 use Rattle.model.specs.Listing.{Stage, writing, reading, has-decided, is-spent, Station, idle, active}
-use Rattle.model.specs.Told.{flagOf, flagNumber}
+use Rattle.model.specs.Listing.{flagOf, flagNumber}
 
 -- "Length is exactly 8 + 32n + 16nK"
 unfoldable pub boardLength : (n K : ℕ) → ℕ

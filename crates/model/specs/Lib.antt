@@ -1,10 +1,10 @@
 -- The definitions that a reader must believe, in the order of document 01. Proofs about them stand in proofs/.
 pub mod Bytes
-pub mod Figure
 pub mod Listing
-pub mod Told
+pub mod Figure
 pub mod Layout
 pub mod Sound
 pub mod Calls
 pub mod Show
+pub mod Told
 pub mod Starred

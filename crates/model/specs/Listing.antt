@@ -3,7 +3,7 @@
 -- The layout, soundness and the calls rely on it, and all of demand 3.
 use mathlib.Core.Bool.{Bool, true, false, cond, _&&_, _||_}
 use mathlib.Core.Option.{Option, none, some}
-use Prim.Native.Nat.{ℕ, _+_}
+use Prim.Native.Nat.{ℕ, zero, suc, _+_}
 use lib.Dec.{eqb, ltb}
 
 -- What the listing asks of figures: whether two are the same, and whether the first is above the second.
@@ -13,6 +13,16 @@ pub record Order (F : Type 0) : Type 0 where
 
 pub data Flag : Type 0 where
   adopt commit : Flag
+
+-- "1 adopt or 2 commit"
+unfoldable pub flagNumber : Flag → ℕ
+flagNumber adopt = 1
+flagNumber commit = 2
+
+unfoldable pub flagOf : ℕ → Flag
+flagOf zero = adopt
+flagOf (suc zero) = adopt
+flagOf (suc (suc k)) = commit
 
 -- "A register has 8 bytes: mark, island, two zeros, figure." A mark is 1 or 2: in B the flag, in m and A always 1.
 pub data Register (F : Type 0) : Type 0 where

@@ -10,7 +10,7 @@ use Rattle.model.specs.Listing.{Turn, turnM, turnA, turnB, Seen, nothing
 use Rattle.model.specs.Listing.{Stage, writing, reading, has-decided, is-spent, Station, idle, active}
 use Rattle.model.specs.Listing.{Array, inM, inA, inB, Order, array, entry, pairAbove}
 use Rattle.model.specs.Layout.{registerAt, registerOf, recordOf, ofPhase, station}
-use Rattle.model.specs.Told.{flagNumber}
+use Rattle.model.specs.Listing.{flagNumber}
 
 -- "Head, 8 bytes: n, K, six zeros."
 unfoldable pub headSound : List ℕ → Bool

@@ -1,21 +1,19 @@
--- What each case of the declared answer of a step says: 01's kind and values, or its refusal number.
--- Relies on the declared enum and on the listing's answers; every contract of a call that answers the enum relies on it.
-use Prim.Native.Nat.{ℕ, zero, suc}
+-- What each case of a declared answer says: 01's kind and values, or its refusal number.
+-- Relies on the declared types and the answers of the definitions; every contract of a call relies on it.
+use mathlib.Core.Option.{none, some}
 use Rattle.model.specs.declared.StepAnswer.{StepAnswer}
 use Rattle.model.specs.declared.StepAnswer.the-variants.{Wrote, Read, Went, Marked, Adopted, Decided, Spent, Refused}
+use Rattle.model.specs.declared.Verdict.{Verdict}
+use Rattle.model.specs.declared.Verdict.the-variants as verdicts
+use Rattle.model.specs.declared.RunVerdict.{RunVerdict}
+use Rattle.model.specs.declared.RunVerdict.the-variants as runs
+use Rattle.model.specs.declared.ShownLine.{ShownLine}
 use Rattle.model.specs.Figure.{Figure}
-use Rattle.model.specs.Listing.{Flag, adopt, commit, Answer, wrote, read, went, marked, adopted, decided, spent, refused}
+use Rattle.model.specs.Listing.{flagOf, Answer, wrote, read, went, marked, adopted, decided, spent, refused}
+use Rattle.model.specs.Calls.{Refusal, RunAnswer, ran, notRun}
+use Rattle.model.specs.Show.{Shown}
 
--- "1 adopt or 2 commit"
-unfoldable pub flagOf : ℕ → Flag
-flagOf zero = adopt
-flagOf (suc zero) = adopt
-flagOf (suc (suc k)) = commit
-
-unfoldable pub flagNumber : Flag → ℕ
-flagNumber adopt = 1
-flagNumber commit = 2
-
+-- "It answers with its kind and fields"; a flag is "1 adopt or 2 commit"
 unfoldable pub told : StepAnswer → Answer Figure
 told Wrote = wrote
 told Read = read
@@ -25,3 +23,14 @@ told (Adopted c v) = adopted c v
 told (Decided c v) = decided c v
 told (Spent c v) = spent c v
 told (Refused k) = refused k
+
+unfoldable pub verdict : Verdict → Refusal
+verdict verdicts.Accepted = none
+verdict (verdicts.Refused k) = some k
+
+unfoldable pub runTold : RunVerdict → RunAnswer
+runTold (runs.Ran s t) = ran (record { taken = s; passed = t })
+runTold (runs.Refused k) = notRun k
+
+unfoldable pub shownTold : ShownLine → Shown
+shownTold s = record { refusal = verdict (s .verdict); line = s .bytes; len = s .len }

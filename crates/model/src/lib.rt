@@ -32,3 +32,22 @@ pub enum StepAnswer {
     Spent { island: u8, figure: i32 },
     Refused { number: u8 },
 }
+
+// What laying, proposing and the test of a board answer: accepted, or the refusal's number.
+pub enum Verdict {
+    Accepted,
+    Refused { number: u8 },
+}
+
+// What a run answers: the steps taken and the steps refused and passed over, or the refusal's number.
+pub enum RunVerdict {
+    Ran { taken: u32, passed: u32 },
+    Refused { number: u8 },
+}
+
+// What `show` hands back by value: the line, zeros after it, and its length; zeros alone beside a refusal.
+pub struct ShownLine {
+    pub verdict: Verdict,
+    pub bytes: [u8; 512],
+    pub len: usize,
+}

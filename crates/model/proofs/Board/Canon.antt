@@ -14,7 +14,7 @@ use Rattle.model.specs.Bytes.{byte, part, number, digits, zeros, implies
 use Rattle.model.specs.Figure.{Figure, figure, figureBytes}
 use Rattle.model.specs.Listing.{Flag, adopt, commit, Turn, turnM, turnA, turnB, Grade, first, second, third, Register, empty, filled}
 use Rattle.model.specs.Listing.{Seen, nothing, seen, Stage, writing, reading, has-decided, is-spent, Station, idle, active}
-use Rattle.model.specs.Told.{flagOf, flagNumber}
+use Rattle.model.specs.Listing.{flagOf, flagNumber}
 use Rattle.model.specs.Layout.{layRegister, readRegister, registerFields, registerValue, registerBytes, marked-by, register, gradeNumber, seenNumber, bestIsland, bestFigure, seenOf, writePhase, flagByte}
 use Rattle.model.specs.Layout.{readRecord, layRecord, fields, recordFields, recordValue, recordBytes, writingOf, readingOf, ofPhase, station}
 use Rattle.model.specs.Sound.{registerSound, collecting, phaseKnown, flagKnown, restZero, idleZero, collectZero, bestIslandZero, bestZero, seenKnown, fieldsSound}

@@ -11,7 +11,7 @@ use Rattle.model.specs.Bytes.{byte, part, zeros, implies, digits}
 use Rattle.model.specs.Figure.{Figure, figure, figureBytes}
 use Rattle.model.specs.Listing.{Flag, adopt, commit, Turn, turnM, turnA, turnB, Grade, first, second, third}
 use Rattle.model.specs.Listing.{Seen, nothing, seen, Stage, writing, reading, has-decided, is-spent, Station, idle, active}
-use Rattle.model.specs.Told.{flagNumber}
+use Rattle.model.specs.Listing.{flagNumber}
 use Rattle.model.specs.Layout.{gradeNumber, seenNumber, bestIsland, bestFigure, seenOf, writePhase, flagByte, layRecord, fields, recordFields, recordBytes}
 use Rattle.model.specs.Layout.{readRecord, writingOf, readingOf, ofPhase}
 use Rattle.model.specs.Sound.{collecting, phaseKnown, positionInside, islandInside, bestInside, flagKnown, restZero, idleZero, collectZero}

@@ -11,7 +11,7 @@ use Rattle.model.specs.Bytes.{byte, part, zeros, implies, digits}
 use Rattle.model.specs.Figure.{Figure, figure, figureBytes, figures, sameFigure}
 use Rattle.model.specs.Listing.{Flag, adopt, commit, Turn, turnM, turnA, turnB, Register, empty, filled, Seen, nothing, seen, Stage, writing, reading, has-decided, is-spent}
 use Rattle.model.specs.Listing.{Station, idle, active, Array, array, entry, see, placeArray, placeColumn}
-use Rattle.model.specs.Told.{flagNumber}
+use Rattle.model.specs.Listing.{flagNumber}
 use Rattle.model.specs.Layout.{registerAt, marked-by, readRegister, registerValue, register, seenOf, readRecord, recordValue, writingOf, readingOf, ofPhase, station, registerOf, recordOf, stationOf}
 use Rattle.model.specs.Sound.{registerSound, marksIn, islandsIn, sameRegister, ownWritten, ownSeen, ownPassed, fieldsSound, recordSound}
 use Rattle.model.proofs.Basics.Tests.{and-l, and-r, and-i, implies-use}

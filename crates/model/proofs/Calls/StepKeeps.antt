@@ -13,7 +13,7 @@ use Rattle.model.specs.Bytes.{byte, part, zeros, implies, digits}
 use Rattle.model.specs.Figure.{Figure, figures, figureBytes}
 use Rattle.model.specs.Listing.{Flag, adopt, commit, Turn, turnM, turnA, turnB, Grade, first, second, third, Register, empty, Seen, nothing, seen, Stage, writing, reading, has-decided, is-spent}
 use Rattle.model.specs.Listing.{Station, idle, active, Array, array, entry, Move, stay, onward, finish, ended, see, move, placeArray, placeColumn}
-use Rattle.model.specs.Told.{flagNumber}
+use Rattle.model.specs.Listing.{flagNumber}
 use Rattle.model.specs.Layout.{register, layRegister, registerFields, registerBytes, registerOf, stationOf}
 use Rattle.model.specs.Sound.{registerSound, marksIn, islandsIn, sameRegister, ownWritten, ownSeen, ownPassed}
 use Rattle.model.specs.Calls.{putStation, putRegister, access}
