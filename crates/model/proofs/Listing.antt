@@ -4,3 +4,4 @@ pub mod Written
 pub mod Order
 pub mod OneRead
 pub mod Moves
+pub mod Tells

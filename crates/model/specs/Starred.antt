@@ -51,8 +51,13 @@ pub record Row : Type 0 where
 
 unfoldable pub rows : List Row
 rows =
-    -- "n = 2, K = 2, proposals 7 and 3: (steps (times 2 (times 3 2) (times 3 1) (times 3 2) (times 6 1) (times 3 2)))"
+    -- the calls of the first sheet, 12 steps of station 1 and 24 of station 2
     record {
+      gives = play 3 2 (negsuc 39 ∷ pos 15 ∷ []) (times 12 (1 ∷ []) ++ times 24 (2 ∷ []));
+      says = ended 36 0 (text "(stations (1 decided 0 -40) (2 decided 1 -40) (3 idle))");
+    }
+    -- "n = 2, K = 2, proposals 7 and 3: (steps (times 2 (times 3 2) (times 3 1) (times 3 2) (times 6 1) (times 3 2)))"
+    ∷ record {
       gives = play 2 2 (pos 7 ∷ pos 3 ∷ []) (times 2 (times 3 (2 ∷ []) ++ times 3 (1 ∷ []) ++ times 3 (2 ∷ []) ++ times 6 (1 ∷ []) ++ times 3 (2 ∷ [])));
       says = ended 36 0 (text "(stations (1 spent 1 7) (2 spent 1 3))");
     }
