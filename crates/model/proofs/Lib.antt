@@ -5,4 +5,5 @@ pub mod Listing
 pub mod Calls
 pub mod Agreement
 pub mod Sequential
+pub mod Bridge
 pub mod Starred

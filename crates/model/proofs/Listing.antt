@@ -5,3 +5,4 @@ pub mod Order
 pub mod OneRead
 pub mod Moves
 pub mod Tells
+pub mod Going

@@ -7,4 +7,5 @@ pub mod Sound
 pub mod Calls
 pub mod Show
 pub mod Told
+pub mod AnyList
 pub mod Starred

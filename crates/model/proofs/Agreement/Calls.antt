@@ -7,8 +7,11 @@ use Prim.Native.Nat.{ℕ, _+_, _≤_, _<_}
 use lib.Dec.{ltb}
 use borrow.Author.Tests.{ltb-false}
 use Rattle.model.specs.Listing.{Order, Register, Turn, turnM, turnA, turnB, Grade, first, second, third, Seen, nothing, seen, Stage, writing, reading, has-decided, is-spent, Station, idle, active, Move, Array, inM, array, entry, placeArray, placeColumn, proposed, stay, onward, finish, ended, see, move}
+use Rattle.model.proofs.Listing.Going.{Going}
+use Rattle.model.proofs.Listing.Written.{ended-writes}
+use Rattle.model.proofs.Basics.Tests.{cond-case}
 use Rattle.model.proofs.Agreement.State.{State, put, put-same, putWritten, initial, proposing, moveOf, moving}
-use Rattle.model.proofs.Agreement.Cells.{Cell, standing, on-cond, cells, written, rewritten, cells-rewritten, put-put}
+use Rattle.model.proofs.Agreement.Cells.{Cell, standing, cells, written, rewritten, cells-rewritten, put-put}
 use Rattle.model.proofs.Agreement.Invariant.{Kept}
 use Rattle.model.proofs.Agreement.Restage.{proposes-kept}
 use Rattle.model.proofs.Agreement.Read.{looked, read-kept}
@@ -19,33 +22,6 @@ use Rattle.model.proofs.Agreement.Write.{write-kept}
 module _ {F : Type 0} where
   pub record Inv (n : ℕ) (st : State F) : Type 0 where
     pub clauses : Kept n (cells st)
-
-  -- the station has not ended, so it has a move
-  abbrev pub Going : Stage F → Type 0
-  Going (writing t c x) = Unit {0}
-  Going (reading t c x p a) = Unit {0}
-  Going (has-decided c x) = ⊥
-  Going (is-spent c x) = ⊥
-
-  onward-none : (K c : ℕ) (x : F) → onward K c x .written ≡ none
-  unfolding onward stay
-  onward-none K c x = on-cond (λ (m : Move F). m .written ≡ none) _ _ (ltb (c + 1) K) (λ _. refl) (λ _. refl)
-
-  finish-none : (K : ℕ) (t : Turn) (c : ℕ) (g : Grade) (k : ℕ) (y : F) → finish K t c g k y .written ≡ none
-  unfolding finish stay
-  finish-none K turnM c g k y = refl
-  finish-none K turnA c first k y = refl
-  finish-none K turnA c second k y = refl
-  finish-none K turnA c third k y = refl
-  finish-none K (turnB f) c first k y = onward-none K c y
-  finish-none K (turnB f) c second k y = refl
-  finish-none K (turnB f) c third k y = onward-none K c y
-
-  -- the end of a collect writes nothing
-  pub ended-none : (K : ℕ) (t : Turn) (c : ℕ) (x : F) (a : Seen F) → ended K t c x a .written ≡ none
-  unfolding ended
-  ended-none K t c x nothing = finish-none K t c third c x
-  ended-none K t c x (seen g k y) = finish-none K t c g k y
 
   module _ (n : ℕ) where
     pub inv-initial : Inv n initial
@@ -118,13 +94,11 @@ module _ {F : Type 0} where
         let r = st .register (array t c) p in
         let last = ended K t c x (see o t a r) in
         record {
-          clauses = on-cond
-              (λ (m : Move F). Kept n (cells (rewritten i (active v (m .stage)) (array t c) (m .written) st))) _ _
-              (ltb (p + 1) n)
+          clauses = cond-case (λ (m : Move F). Kept n (cells (rewritten i (active v (m .stage)) (array t c) (m .written) st))) (ltb (p + 1) n) _ _
               (λ e. unwritten-kept n st i (looked o v t c x p a r) (array t c) none refl
               (read-kept o sameIs n i v t c x p a near is (h .clauses)))
               (λ e. unwritten-kept n st i (active v (last .stage)) (array t c) (last .written)
-              (ended-none K t c x (see o t a r))
+              (ended-writes K t c x (see o t a r))
               (ends-kept (cells st) i v t c x p a near (ltb-false (p + 1) n e) is (h .clauses)));
         }
     inv-move {st} {v} {s = has-decided c x} i near is g h = absurd g

@@ -18,11 +18,6 @@ pub record Cell (F : Type 0) : Type 0 where
 abbrev pub standing : {F : Type 0} → Station F → Cell F → Cell F
 standing s C = record { station = s; register = C .register }
 
--- What holds of either branch under its test holds of the choice.
-pub on-cond : {A : Type 0} (P : A → Type 0) (x y : A) (t : Bool) → (t ≡ true → P x) → (t ≡ false → P y) → P (cond t x y)
-on-cond P x y true h k = h refl
-on-cond P x y false h k = k refl
-
 module _ {A : Type 0} (i : ℕ) (a : A) (f : ℕ → A) where
   -- What holds of a at i, and of f elsewhere, holds of f with a at i.
   pub on-put : (P : ℕ → A → Type 0) → P i a → ((j : ℕ) → (i ≡ j → ⊥) → P j (f j)) → (j : ℕ) → P j (put i a f j)

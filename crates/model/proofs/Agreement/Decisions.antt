@@ -8,7 +8,8 @@ use native.Mathlib.Omega.{arith}
 use Rattle.model.specs.Listing.{commit, Stage, has-decided, Station, idle, active, inM, inB}
 use Rattle.model.proofs.Agreement.State.{State}
 use Rattle.model.proofs.Agreement.Cells.{Cell, cells}
-use Rattle.model.proofs.Agreement.Registers.{Filled, Says, Marked, marked-filled}
+use Rattle.model.proofs.Listing.Collect.{Filled}
+use Rattle.model.proofs.Agreement.Registers.{Says, Marked, marked-filled}
 use Rattle.model.proofs.Agreement.Own.{Proposes, filled-near}
 use Rattle.model.proofs.Agreement.Pairs.{committed, MayPass, past}
 use Rattle.model.proofs.Agreement.Licences.{Out, Licensed}

@@ -6,7 +6,8 @@ use Prim.Native.Nat.{ℕ, _<_}
 use Rattle.model.specs.Listing.{Flag, adopt, commit, Register, turnM, turnA, turnB, writing, reading, has-decided, is-spent, Station, idle, active, inM, inB, array}
 use Rattle.model.proofs.Agreement.State.{put}
 use Rattle.model.proofs.Agreement.Cells.{Cell, on-put}
-use Rattle.model.proofs.Agreement.Registers.{Filled, Says, Marked, Best, Met, marked-filled}
+use Rattle.model.proofs.Listing.Collect.{Filled}
+use Rattle.model.proofs.Agreement.Registers.{Says, Marked, Best, Met, marked-filled}
 use Rattle.model.proofs.Agreement.Own.{Later, Proposes}
 use Rattle.model.proofs.Agreement.Pairs.{MayPass}
 

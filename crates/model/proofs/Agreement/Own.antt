@@ -5,7 +5,8 @@ use Prim.Native.Nat.{ℕ, suc, _<_}
 use native.Mathlib.Omega.{arith}
 use Rattle.model.specs.Listing.{adopt, commit, Register, Turn, turnM, turnA, turnB, writing, reading, has-decided, is-spent, Station, idle, active, Array, inM, inA, inB, array}
 use Rattle.model.proofs.Agreement.Cells.{Cell}
-use Rattle.model.proofs.Agreement.Registers.{Filled, Says, Marked, Left, Brought}
+use Rattle.model.proofs.Listing.Collect.{Filled}
+use Rattle.model.proofs.Agreement.Registers.{Says, Marked, Left, Brought}
 
 -- a turn on island c that is not the station's first
 abbrev pub Later : Turn → ℕ → Type 0

@@ -9,7 +9,7 @@ use native.Mathlib.Omega.{arith}
 use lib.Dec.{eqb, ltb}
 use borrow.Author.Tests.{ltb-true, ltb-false, eqb-true}
 use Rattle.model.specs.Listing.{Order, Flag, adopt, commit, Register, empty, filled, Turn, turnM, turnA, turnB, Grade, first, second, third, Seen, nothing, seen, inM, array, entry, larger, pairAbove, add, see}
-use Rattle.model.proofs.Agreement.Cells.{on-cond}
+use Rattle.model.proofs.Basics.Tests.{cond-case}
 use Rattle.model.proofs.Agreement.Registers.{Says, Marked, Figure, Best, Met, Left, Brought, Clean, Harmless, adopt≢commit}
 
 first-or-second : (a b c : Bool) → (a || (b && c)) ≡ true → (a ≡ true) ⊎ (b ≡ true)
@@ -50,7 +50,7 @@ module _ {F : Type 0} (o : Order F) where
 
   larger-is : (P : F → Type 0) (x y : F) → P x → P y → P (larger o x y)
   unfolding larger
-  larger-is P x y h k = on-cond P y x (o .above y x) (λ e. k) (λ e. h)
+  larger-is P x y h k = cond-case P (o .above y x) y x (λ e. k) (λ e. h)
 
   one-of : {A : Type 0} (x y z : F) → A → larger o x y ≡ z → (A × (x ≡ z)) ⊎ (A × (y ≡ z))
   unfolding larger
@@ -107,11 +107,11 @@ module _ {F : Type 0} (o : Order F) where
     kept t c x a empty h = h
     kept turnM c x nothing (filled f k y) h = absurd h
     kept turnM c x (seen g j z) (filled f k y) h =
-        on-cond (λ (a : Seen F). Brought turnM c x a) _ _ (pairAbove o k y j z)
+        cond-case (λ (a : Seen F). Brought turnM c x a) (pairAbove o k y j z) _ _
         (λ e. omega (arith, above-high k y j z e)) (λ e. h)
     kept turnA c x nothing (filled f k y) h = absurd h
     kept turnA c x (seen first j z) (filled f k y) h =
-        on-cond (λ (g : Grade). Brought turnA c x (seen g j (larger o z y))) _ _ (o .same z y)
+        cond-case (λ (g : Grade). Brought turnA c x (seen g j (larger o z y))) (o .same z y) _ _
         (λ e. larger-is (λ (w : F). w ≡ x) z y h (cc (sameIs z y e))) (λ e. tt)
     kept turnA c x (seen second j z) (filled f k y) h = tt
     kept turnA c x (seen third j z) (filled f k y) h = tt
@@ -124,7 +124,7 @@ module _ {F : Type 0} (o : Order F) where
     kept (turnB commit) c x (seen first j z) (filled f k y) h = absurd h
     kept (turnB commit) c x (seen second j z) (filled adopt k y) h = tt
     kept (turnB commit) c x (seen second j z) (filled commit k y) h =
-        on-cond (λ (g : Grade). Brought (turnB commit) c x (seen g j z)) _ _ (o .same z y) (λ e. h) (λ e. tt)
+        cond-case (λ (g : Grade). Brought (turnB commit) c x (seen g j z)) (o .same z y) _ _ (λ e. h) (λ e. tt)
     kept (turnB commit) c x (seen third j z) (filled f k y) h = tt
 
     pub brought : (t : Turn) (c : ℕ) (x : F) (a : Seen F) (r : Register F) → Left t c x r → Brought t c x (see o t a r)
@@ -132,12 +132,12 @@ module _ {F : Type 0} (o : Order F) where
     brought turnM c x a empty h = absurd h
     brought turnM c x nothing (filled f k y) h = h
     brought turnM c x (seen g j z) (filled f k y) h =
-        on-cond (λ (a : Seen F). Brought turnM c x a) _ _ (pairAbove o k y j z)
+        cond-case (λ (a : Seen F). Brought turnM c x a) (pairAbove o k y j z) _ _
         (λ e. h) (λ e. omega (arith, not-above-low k y j z e))
     brought turnA c x a empty h = absurd h
     brought turnA c x nothing (filled f k y) h = h
     brought turnA c x (seen first j z) (filled f k y) h =
-        on-cond (λ (g : Grade). Brought turnA c x (seen g j (larger o z y))) _ _ (o .same z y)
+        cond-case (λ (g : Grade). Brought turnA c x (seen g j (larger o z y))) (o .same z y) _ _
         (λ e. larger-is (λ (w : F). w ≡ x) z y (cc (sameIs z y e)) h) (λ e. tt)
     brought turnA c x (seen second j z) (filled f k y) h = tt
     brought turnA c x (seen third j z) (filled f k y) h = tt
@@ -155,7 +155,7 @@ module _ {F : Type 0} (o : Order F) where
     brought (turnB commit) c x (seen first j z) (filled commit k y) h = tt
     brought (turnB commit) c x (seen second j z) (filled adopt k y) h = tt
     brought (turnB commit) c x (seen second j z) (filled commit k y) h =
-        on-cond (λ (g : Grade). Brought (turnB commit) c x (seen g j z)) _ _ (o .same z y)
+        cond-case (λ (g : Grade). Brought (turnB commit) c x (seen g j z)) (o .same z y) _ _
         (λ e. cc (sameIs z y e, h .1)) (λ e. tt)
     brought (turnB commit) c x (seen third j z) (filled f k y) h = tt
 

@@ -4,6 +4,7 @@ use mathlib.Core.Path.{_≡_}
 use Prim.Native.Nat.{ℕ, _≤_}
 use native.Mathlib.Omega.{arith}
 use Rattle.model.specs.Listing.{Flag, adopt, commit, Register, empty, filled, Turn, turnM, turnA, turnB, first, second, third, Seen, nothing, seen, Array, inM, inA, inB}
+use Rattle.model.proofs.Listing.Collect.{Filled}
 
 -- the island of a figure that stands in array a beside the island k: only m writes islands into its registers
 abbrev pub isle : Array → ℕ → ℕ
@@ -12,10 +13,6 @@ isle (inA c) k = c
 isle (inB c) k = c
 
 module _ {F : Type 0} where
-  abbrev pub Filled : Register F → Type 0
-  Filled empty = ⊥
-  Filled (filled f k y) = Unit {0}
-
   abbrev pub Says : Register F → F → Type 0
   Says empty x = ⊥
   Says (filled f k y) x = y ≡ x

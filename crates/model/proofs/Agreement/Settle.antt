@@ -7,8 +7,9 @@ use native.Mathlib.Decide.{ℕ-discrete}
 use native.Mathlib.Omega.{arith}
 use lib.Dec.{ltb}
 use Rattle.model.specs.Listing.{Flag, adopt, commit, Turn, turnM, turnA, turnB, Grade, first, second, third, Seen, nothing, seen, writing, reading, has-decided, is-spent, Station, active, Move, inA, inB, array, stay, onward, finish, ended}
+use Rattle.model.proofs.Basics.Tests.{cond-case}
 use Rattle.model.proofs.Agreement.State.{put}
-use Rattle.model.proofs.Agreement.Cells.{Cell, standing, on-cond}
+use Rattle.model.proofs.Agreement.Cells.{Cell, standing}
 use Rattle.model.proofs.Agreement.Registers.{Says, Marked, Brought, marked-filled}
 use Rattle.model.proofs.Agreement.Own.{after, Mine, filled-near}
 use Rattle.model.proofs.Agreement.Pairs.{Passed, MayPass, passing, past, may-awake, committing, spent-may-not}
@@ -50,7 +51,7 @@ module _ {F : Type 0} (n : ℕ) {f : ℕ → Cell F} (i : ℕ) (v : F) (near : i
     goes-on : (K : ℕ) (y : F) → after t c ≤ suc c → Licensed n f c y → Out f c y
         → Restaged n f i before (active v (onward K c y .stage))
     unfolding onward stay
-    goes-on K y up l out = on-cond (λ (m : Move F). Restaged n f i before (active v (m .stage))) _ _ (ltb (c + 1) K)
+    goes-on K y up l out = cond-case (λ (m : Move F). Restaged n f i before (active v (m .stage))) (ltb (c + 1) K) _ _
         (λ _. to-next turnM (c + 1) y (omega arith) (λ e. absurd (omega arith))
         (λ j k b q. absurd (committing turnM (q .0))) next)
         (λ _. to-spent y up l)

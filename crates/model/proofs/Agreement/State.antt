@@ -1,12 +1,13 @@
 -- The state of all stations and registers as functions of a station's index, and the two calls on it.
 -- Relies on the listing; the invariant and the sequential run rely on it.
-use mathlib.Core.Path.{_≡_, refl, ap, _∙_}
+use mathlib.Core.Path.{_≡_, refl, sym, ap}
 use mathlib.Core.Bool.{Bool, true, false, cond, _&&_}
 use mathlib.Core.Option.{Option, none, some}
 use Prim.Native.Nat.{ℕ}
 use lib.Dec.{eqb}
-use borrow.Author.Tests.{eqb-true, eqb-false, eq-eqb, ne-eqb}
+use borrow.Author.Tests.{eqb-true, eq-eqb, ne-eqb}
 use Rattle.model.specs.Listing.{Order, Register, empty, filled, Station, idle, active, Stage, Array, inM, inA, inB, Move, placeArray, placeColumn, proposed, move}
+use Rattle.model.proofs.Basics.Tests.{clash}
 
 pub record State (F : Type 0) : Type 0 where
   pub station : ℕ → Station F
@@ -34,6 +35,25 @@ sameArray (inA c) (inB k) = false
 sameArray (inB c) inM = false
 sameArray (inB c) (inA k) = false
 sameArray (inB c) (inB k) = eqb c k
+
+-- the test tells equal arrays
+pub array-is : (a c : Array) → sameArray a c ≡ true → a ≡ c
+unfolding sameArray
+array-is inM inM e = refl
+array-is inM (inA k) e = clash (sym e)
+array-is inM (inB k) e = clash (sym e)
+array-is (inA c) inM e = clash (sym e)
+array-is (inA c) (inA k) e = ap inA (eqb-true c k e)
+array-is (inA c) (inB k) e = clash (sym e)
+array-is (inB c) inM e = clash (sym e)
+array-is (inB c) (inA k) e = clash (sym e)
+array-is (inB c) (inB k) e = ap inB (eqb-true c k e)
+
+pub array-self : (a : Array) → sameArray a a ≡ true
+unfolding sameArray
+array-self inM = refl
+array-self (inA c) = eq-eqb c c refl
+array-self (inB c) = eq-eqb c c refl
 
 module _ {F : Type 0} where
   unfoldable pub initial : State F

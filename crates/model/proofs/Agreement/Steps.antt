@@ -7,11 +7,14 @@ use Prim.Native.Nat.{ℕ, _+_}
 use lib.Dec.{ltb, eqb}
 use borrow.Author.Tests.{eq-eqb}
 use Rattle.model.specs.Listing.{Order, adopt, Register, filled, Turn, turnM, turnA, turnB, Stage, writing, reading, has-decided, is-spent, Station, active, Move, Array, inM, entry, array, placeArray, placeColumn, stay, see, move}
+use Rattle.model.proofs.Listing.Going.{Going}
+use Rattle.model.proofs.Listing.Written.{ended-writes}
+use Rattle.model.proofs.Basics.Tests.{cond-case}
 use Rattle.model.proofs.Agreement.State.{State, sameArray, putWritten, moveOf, moving}
-use Rattle.model.proofs.Agreement.Cells.{cells, on-cond}
-use Rattle.model.proofs.Agreement.Registers.{Filled}
+use Rattle.model.proofs.Agreement.Cells.{cells}
+use Rattle.model.proofs.Listing.Collect.{Filled, entry-fills}
 use Rattle.model.proofs.Agreement.Own.{Begun}
-use Rattle.model.proofs.Agreement.Calls.{Inv, Going, ended-none}
+use Rattle.model.proofs.Agreement.Calls.{Inv}
 
 module _ {F : Type 0} where
   -- what is written, if anything, is a filled register
@@ -19,17 +22,11 @@ module _ {F : Type 0} where
   Fills none = Unit {0}
   Fills (some r) = Filled r
 
-  entry-filled : (t : Turn) (c : ℕ) (x : F) → Filled (entry t c x)
-  unfolding entry
-  entry-filled turnM c x = tt
-  entry-filled turnA c x = tt
-  entry-filled (turnB f) c x = tt
-
   move-fills : (o : Order F) (n K : ℕ) (s : Stage F) (r : Register F) → Fills (move o n K s r .written)
   unfolding move stay
-  move-fills o n K (writing t c x) r = entry-filled t c x
-  move-fills o n K (reading t c x p a) r = on-cond (λ (m : Move F). Fills (m .written)) _ _ (ltb (p + 1) n)
-      (λ _. tt) (λ _. subst Fills (sym (ended-none K t c x (see o t a r))) tt)
+  move-fills o n K (writing t c x) r = entry-fills t c x
+  move-fills o n K (reading t c x p a) r = cond-case (λ (m : Move F). Fills (m .written)) (ltb (p + 1) n) _ _
+      (λ _. tt) (λ _. subst Fills (sym (ended-writes K t c x (see o t a r))) tt)
   move-fills o n K (has-decided c x) r = tt
   move-fills o n K (is-spent c x) r = tt
 
@@ -37,7 +34,7 @@ module _ {F : Type 0} where
       → Fills w → Filled (f b j) → Filled (putWritten a i w f b j)
   unfolding putWritten
   written-filled a i none f b j h d = d
-  written-filled a i (some r) f b j h d = on-cond Filled r (f b j) (sameArray a b && eqb i j) (λ _. h) (λ _. d)
+  written-filled a i (some r) f b j h d = cond-case Filled (sameArray a b && eqb i j) r (f b j) (λ _. h) (λ _. d)
 
   module _ (o : Order F) (n K : ℕ) where
     pub filled-stays : (i : ℕ) (v : F) (s : Stage F) (st : State F) (a : Array) (j : ℕ)

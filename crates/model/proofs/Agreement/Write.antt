@@ -8,7 +8,8 @@ use native.Mathlib.Omega.{arith}
 use Rattle.model.specs.Listing.{adopt, commit, Register, Turn, turnM, turnA, turnB, nothing, writing, reading, Station, active, Array, inM, inA, inB}
 use Rattle.model.proofs.Agreement.State.{put, put-same}
 use Rattle.model.proofs.Agreement.Cells.{Cell}
-use Rattle.model.proofs.Agreement.Registers.{Filled, Says, Marked}
+use Rattle.model.proofs.Listing.Collect.{Filled}
+use Rattle.model.proofs.Agreement.Registers.{Says, Marked}
 use Rattle.model.proofs.Agreement.Own.{Proposes, Later, Mine}
 use Rattle.model.proofs.Agreement.Pairs.{Passed, About, CanMiss, passing, to-commit, committed, MayPass, past}
 use Rattle.model.proofs.Agreement.Licences.{Sighted, Committed, Licensed, Steady, licensed-stays}

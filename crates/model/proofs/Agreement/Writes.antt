@@ -8,7 +8,8 @@ use native.Mathlib.Omega.{arith}
 use Rattle.model.specs.Listing.{adopt, commit, Register, Turn, turnM, turnA, turnB, writing, active, Array, inM, inA, inB, array, entry}
 use Rattle.model.proofs.Agreement.State.{put, sameArray, put-same}
 use Rattle.model.proofs.Agreement.Cells.{written, on-put}
-use Rattle.model.proofs.Agreement.Registers.{Filled, Says, Marked, Figure, Left, marked-filled, adopt≢commit}
+use Rattle.model.proofs.Listing.Collect.{Filled}
+use Rattle.model.proofs.Agreement.Registers.{Says, Marked, Figure, Left, marked-filled, adopt≢commit}
 use Rattle.model.proofs.Agreement.Reads.{left-entry}
 use Rattle.model.proofs.Agreement.Own.{Later, after, Mine}
 

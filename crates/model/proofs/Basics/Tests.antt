@@ -6,6 +6,7 @@ use mathlib.Core.Logic.{_⊎_, inl, inr, ⊎-elim}
 use mathlib.Core.List.{List, [], _∷_, _++_}
 use Prim.Native.Nat.{ℕ, zero, suc, _+_, _≤_, _<_}
 use native.Mathlib.Nat.{le-of-suc-le-suc, not-suc-le-zero, le-suc, le-trans, le-refl, eq-or-lt-of-le}
+use native.Mathlib.Omega.{arith}
 use lib.Dec.{T, leb, ltb, eqb, eqb→eq, eqb-refl, not-T}
 use lib.ListN.{length, replicate, getD}
 use Rattle.model.specs.Bytes.{every, zeros, implies}
@@ -36,6 +37,9 @@ T-true false t = absurd t
 pub T-false : (a : Bool) → T (not a) → a ≡ false
 T-false true t = absurd t
 T-false false t = refl
+
+pub clash : {X : Type 0} → true ≡ false → X
+clash e = absurd (let z : _≡_ {A = ℕ} 0 1 = cc in omega arith)
 
 -- a Bool is decided
 pub decided-test : (a : Bool) → T a ⊎ T (not a)
@@ -79,3 +83,8 @@ zeros-is (x ∷ xs) t =
 
 pub eq-T : (a b : ℕ) → a ≡ b → T (eqb a b)
 eq-T a b e = subst (λ (x : ℕ). T (eqb a x)) e (eqb-refl a)
+
+-- a property of both branches of a choice, each under what the test then says
+pub cond-case : {A : Type 0} (P : A → Type 0) (t : Bool) (x y : A) → (t ≡ true → P x) → (t ≡ false → P y) → P (cond t x y)
+cond-case P true x y f g = f refl
+cond-case P false x y f g = g refl

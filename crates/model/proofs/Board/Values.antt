@@ -137,7 +137,7 @@ sound-station n K b s i h = record {
     all-but = and-l (fieldsSound n K (byte r 0) r && ownWritten n i b (station r)) (ownPassed i (station r)) (s .records i h)
 
 own-something : (t : Turn) (c : ℕ) (x : Figure) (a : Seen Figure) → T (ownSeen t c x a) → Something a
-unfolding ownSeen Something
+unfolding ownSeen
 own-something t c x nothing h = h
 own-something t c x (seen g k y) h = tt
 

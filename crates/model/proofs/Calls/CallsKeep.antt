@@ -23,7 +23,8 @@ use Rattle.model.proofs.Calls.Access.{write-bytes, read-bytes}
 use Rattle.model.proofs.Board.SoundFacts.{SoundBoard}
 use Rattle.model.proofs.Board.Values.{array-inside, station-Fits, SoundStation, sound-station}
 use Rattle.model.proofs.Board.Keeps.{sound-but, station-keeps}
-use Rattle.model.proofs.Calls.StepKeeps.{Going, access-keeps}
+use Rattle.model.proofs.Listing.Going.{Going}
+use Rattle.model.proofs.Calls.StepKeeps.{access-keeps}
 use Rattle.model.proofs.Board.Fresh.{length-fresh, fresh-sound}
 use Rattle.model.proofs.Calls.Refusals.{some-none, Shape, shape-of, Board, board-of, OnBoard, station-of, index-inside, call-case}
 
@@ -70,7 +71,7 @@ proposed-sound : (n K i : ℕ) (b : List ℕ) (v : Figure) → 0 < K → SoundSt
 unfolding proposed GoodStation GoodStage ownWritten ownPassed
 proposed-sound n K i b v h = record { good = h; written = tt; passed = tt }
 
-proposed-fits : (v : Figure) → Fits v → FitsStation (proposed v)
+pub proposed-fits : (v : Figure) → Fits v → FitsStation (proposed v)
 unfolding proposed FitsStation FitsStage
 proposed-fits v h = (h, h)
 
@@ -100,7 +101,7 @@ propose-keeps i v fits b h = call-case (λ (a : After Refusal). Board (a .bytes)
 -- an accepted step leaves the head alone
 module _ (n K : ℕ) (b : List ℕ) (len : length b ≡ boardLength n K) (i : ℕ) (own : i < n) (v : Figure) where
   pub access-head : (s : Stage Figure) → GoodStage n K s → Going s → (k : ℕ) → k < 8 → byte (access n K i v s b .bytes) k ≡ byte b k
-  unfolding Going GoodStage
+  unfolding GoodStage
   access-head (writing t c x) g h k l =
       ap (λ (d : List ℕ). byte d k) (write-bytes n K i v b t c x)
       ∙ station-head n K _ (register-length n K b len (array t c) (array-inside K t c g) i own (entry t c x)) i own _ k l
@@ -111,17 +112,17 @@ module _ (n K : ℕ) (b : List ℕ) (len : length b ≡ boardLength n K) (i : �
   access-head (is-spent c x) g h k l = absurd h
 
 pub going-of : (v : Figure) (s : Stage Figure) → notGoing (active v s) ≡ none → Going s
-unfolding notGoing Going
+unfolding notGoing
 going-of v (writing t c x) e = tt
 going-of v (reading t c x p a) e = tt
 going-of v (has-decided c x) e = some-none 15 e
 going-of v (is-spent c x) e = some-none 16 e
 
-good-stage : (n K : ℕ) (v : Figure) (s : Stage Figure) → GoodStation n K (active v s) → GoodStage n K s
+pub good-stage : (n K : ℕ) (v : Figure) (s : Stage Figure) → GoodStation n K (active v s) → GoodStage n K s
 unfolding GoodStation
 good-stage n K v s h = h
 
-station-of-fits : (n K i : ℕ) (b : List ℕ) → FitsStation (stationOf n K i b)
+pub station-of-fits : (n K i : ℕ) (b : List ℕ) → FitsStation (stationOf n K i b)
 unfolding stationOf
 station-of-fits n K i b = station-Fits (recordOf n K i b)
 

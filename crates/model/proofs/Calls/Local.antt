@@ -18,7 +18,7 @@ use Rattle.model.proofs.Board.Good.{GoodStation, GoodStage}
 use Rattle.model.proofs.Board.SoundFacts.{SoundBoard}
 use Rattle.model.proofs.Board.Values.{array-inside, sound-station}
 use Rattle.model.proofs.Calls.Access.{write-bytes, read-bytes}
-use Rattle.model.proofs.Calls.StepKeeps.{Going}
+use Rattle.model.proofs.Listing.Going.{Going}
 use Rattle.model.proofs.Calls.CallsKeep.{going-of}
 use Rattle.model.proofs.Calls.Refusals.{Board, step-on, call-case, OnBoard, station-of, index-inside}
 
@@ -137,7 +137,7 @@ local n K i b d hb hd bn dn bK dK er eg = (
 
 access-other : (n K : ℕ) (b : List ℕ) → SoundBoard n K b → (i : ℕ) → i < n → (v : Figure) (s : Stage Figure) → GoodStage n K s → Going s
     → (j : ℕ) → j < n → (i ≡ j → ⊥) → recordOf n K j (access n K i v s b .bytes) ≡ recordOf n K j b
-unfolding Going GoodStage
+unfolding GoodStage
 access-other n K b q i own v (writing t c x) g h j l f =
     ap (recordOf n K j) (write-bytes n K i v b t c x)
     ∙ station-other n K _ (register-length n K b (q .len) (array t c) (array-inside K t c g) i own (entry t c x)) i own _ j l f

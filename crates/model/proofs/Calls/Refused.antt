@@ -12,8 +12,8 @@ use Rattle.model.specs.Listing.{Order, Turn, turnM, turnA, turnB, Grade,
 use Rattle.model.specs.Listing.{Station, idle, active, Answer, refused, accepted, Move, stay, onward, finish, ended, see, move}
 use Rattle.model.specs.Calls.{After, Refusal, RunAnswer, ran, notRun, shapeRefusal, boardRefusal, stationRefusal, stationAt, stations, islands, lay, propose, notGoing}
 use Rattle.model.specs.Calls.{access, stepped, stepOn, step, finished, run}
-use Rattle.model.proofs.Listing.Collect.{cond-case}
-use Rattle.model.proofs.Calls.StepKeeps.{Going}
+use Rattle.model.proofs.Basics.Tests.{clash, cond-case}
+use Rattle.model.proofs.Listing.Going.{Going}
 use Rattle.model.proofs.Calls.CallsKeep.{going-of}
 use Rattle.model.proofs.Calls.Refusals.{some-none, call-case, station-of}
 
@@ -66,16 +66,13 @@ module _ {F : Type 0} (K : ℕ) where
       cond-case (λ (m : Move F). accepted (m .answer) ≡ true) (ltb (p + 1) n) _ _ (λ e. refl) (λ e. ended-accepts t c x (see o t a r))
 
 pub access-accepts : (n K i : ℕ) (v : Figure) (s : Stage Figure) (b : List ℕ) → Going s → accepted (access n K i v s b .answer) ≡ true
-unfolding access Going move accepted
+unfolding access move accepted
 access-accepts n K i v (writing t c x) b h = refl
 access-accepts n K i v (reading t c x p a) b h = read-accepts K figures n t c x p a _
 access-accepts n K i v (has-decided c x) b h = absurd h
 access-accepts n K i v (is-spent c x) b h = absurd h
 
 -- ---- a refused step
-
-clash : {X : Type 0} → true ≡ false → X
-clash e = absurd (let z : _≡_ {A = ℕ} 0 1 = cc in omega arith)
 
 stepped-refused : (n K i : ℕ) (z : Station Figure) (b : List ℕ) → notGoing z ≡ none → accepted (stepped n K i z b .answer) ≡ false
     → stepped n K i z b .bytes ≡ b

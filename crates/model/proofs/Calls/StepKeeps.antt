@@ -17,12 +17,12 @@ use Rattle.model.specs.Listing.{flagNumber}
 use Rattle.model.specs.Layout.{register, layRegister, registerFields, registerBytes, registerOf, stationOf}
 use Rattle.model.specs.Sound.{registerSound, marksIn, islandsIn, sameRegister, ownWritten, ownSeen, ownPassed}
 use Rattle.model.specs.Calls.{putStation, putRegister, access}
-use Rattle.model.proofs.Basics.Tests.{true-T, implies-use, implies-make}
+use Rattle.model.proofs.Listing.Going.{Going}
+use Rattle.model.proofs.Basics.Tests.{true-T, implies-use, implies-make, cond-case}
 use Rattle.model.proofs.Board.Places.{InBoard, Compared, lower, equal, higher, compared}
 use Rattle.model.proofs.Board.Codec.{Fits, FitsSeen, FitsRegister, FitsStage, FitsStation, register-bytes}
 use Rattle.model.proofs.Board.Boards.{registerPart, register-same}
 use Rattle.model.proofs.Board.Good.{GoodSeen, GoodStage, GoodStation}
-use Rattle.model.proofs.Listing.Collect.{cond-case}
 use Rattle.model.proofs.Listing.OneRead.{own-kept, own-met}
 use Rattle.model.proofs.Listing.Moves.{move-good, move-fits}
 use Rattle.model.proofs.Calls.Access.{write-bytes, read-bytes}
@@ -92,14 +92,7 @@ module _ (K : ℕ) where
 
 -- ---- the step
 
--- the stages that have a next step
-unfoldable pub Going : Stage Figure → Type 0
-Going (writing t c x) = Unit {0}
-Going (reading t c x p a) = Unit {0}
-Going (has-decided c x) = ⊥
-Going (is-spent c x) = ⊥
-
-entry-fits : (t : Turn) (c : ℕ) (x : Figure) → Fits x → FitsRegister (entry t c x)
+pub entry-fits : (t : Turn) (c : ℕ) (x : Figure) → Fits x → FitsRegister (entry t c x)
 unfolding entry FitsRegister
 entry-fits turnM c x h = h
 entry-fits turnA c x h = h
@@ -178,7 +171,6 @@ module _ (n K : ℕ) (b : List ℕ) (q : SoundBoard n K b) (hK : 0 < K) (i : ℕ
   -- An accepted step of station index i, which stands at stage s, keeps the board sound.
   pub access-keeps : (s : Stage Figure) → Going s → FitsStation (active v s) → SoundStation n K i b (active v s)
       → SoundBoard n K (access n K i v s b .bytes)
-  unfolding Going
   access-keeps (writing t c x) h fits g = write-keeps t c x fits g
   access-keeps (reading t c x p a) h fits g = read-keeps t c x p a fits g
   access-keeps (has-decided c x) h fits g = absurd h

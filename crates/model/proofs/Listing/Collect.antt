@@ -8,32 +8,28 @@ use native.Mathlib.Omega.{arith}
 use lib.Dec.{ltb}
 use Rattle.model.specs.Listing.{Order, Flag, adopt, commit, Turn, turnM, turnA, turnB, Grade, first, second, third}
 use Rattle.model.specs.Listing.{Register, empty, filled, Seen, nothing, seen, entry, larger, pairAbove, add, see}
+use Rattle.model.proofs.Basics.Tests.{cond-case}
 use Rattle.model.proofs.Board.Places.{Compared, lower, equal, higher, compared}
 
--- a property of both branches of a choice, each under what the test then says
-pub cond-case : {A : Type 0} (P : A → Type 0) (t : Bool) (x y : A) → (t ≡ true → P x) → (t ≡ false → P y) → P (cond t x y)
-cond-case P true x y f g = f refl
-cond-case P false x y f g = g refl
-
 module _ {F : Type 0} where
-  unfoldable pub Something : Seen F → Type 0
+  abbrev pub Something : Seen F → Type 0
   Something nothing = ⊥
   Something (seen g k y) = Unit {0}
 
-  unfoldable pub Filled : Register F → Type 0
+  abbrev pub Filled : Register F → Type 0
   Filled empty = ⊥
   Filled (filled f k y) = Unit {0}
 
   -- whatever a station writes fills its register
   pub entry-fills : (t : Turn) (c : ℕ) (x : F) → Filled (entry t c x)
-  unfolding Filled entry
+  unfolding entry
   entry-fills turnM c x = tt
   entry-fills turnA c x = tt
   entry-fills (turnB f) c x = tt
 
   module _ (o : Order F) where
     pub add-sees : (t : Turn) (a : Seen F) (f : Flag) (k : ℕ) (y : F) → Something (add o t a f k y)
-    unfolding Something add
+    unfolding add
     add-sees turnM nothing f k y = tt
     add-sees turnM (seen g j x) f k y = cond-case Something (pairAbove o k y j x) (seen g k y) (seen g j x) (λ e. tt) (λ e. tt)
     add-sees turnA nothing f k y = tt
@@ -49,7 +45,7 @@ module _ {F : Type 0} where
     add-sees (turnB e) (seen third j x) f k y = tt
 
     pub filled-sees : (t : Turn) (a : Seen F) (r : Register F) → Filled r → Something (see o t a r)
-    unfolding Filled see
+    unfolding see
     filled-sees t a empty h = absurd h
     filled-sees t a (filled f k y) h = add-sees t a f k y
 

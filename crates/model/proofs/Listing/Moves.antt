@@ -13,10 +13,10 @@ use Rattle.model.specs.Listing.{Flag, Turn, turnM, turnA, turnB, Grade, 
 use Rattle.model.specs.Listing.{Register, Seen, nothing, seen, Stage, writing, reading, has-decided, is-spent, Station, active}
 use Rattle.model.specs.Listing.{Move, stay, onward, finish, ended, see, move}
 use Rattle.model.specs.Sound.{ownSeen, ownPassed}
-use Rattle.model.proofs.Basics.Tests.{implies-use, implies-make}
+use Rattle.model.proofs.Basics.Tests.{implies-use, implies-make, cond-case}
 use Rattle.model.proofs.Board.Codec.{Fits, FitsRegister, FitsSeen, FitsStage}
 use Rattle.model.proofs.Board.Good.{GoodSeen, GoodStage}
-use Rattle.model.proofs.Listing.Collect.{cond-case, Something}
+use Rattle.model.proofs.Listing.Collect.{Something}
 use Rattle.model.proofs.Listing.OneRead.{GoodRead, see-good, see-fits}
 
 -- what a move of stage s over register r asks of it to keep the station good
@@ -33,7 +33,7 @@ module _ (n K : ℕ) where
       cond-case (λ (m : Move Figure). GoodStage n K (m .stage)) (ltb (c + 1) K) _ _ (λ e. ltb-true (c + 1) K e) (λ e. h)
 
   ended-good : (t : Turn) (c : ℕ) (x : Figure) (a : Seen Figure) → c < K → GoodSeen K t a → Something a → GoodStage n K (ended K t c x a .stage)
-  unfolding ended finish stay GoodStage GoodSeen Something
+  unfolding ended finish stay GoodStage GoodSeen
   ended-good t c x nothing h l s = absurd s
   ended-good turnM c x (seen first k y) h l s = l
   ended-good turnM c x (seen second k y) h l s = absurd l

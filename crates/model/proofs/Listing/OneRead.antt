@@ -9,10 +9,9 @@ use Rattle.model.specs.Figure.{Figure, figures, above}
 use Rattle.model.specs.Listing.{Order, Flag, adopt, commit, Turn, turnM, turnA, turnB, Grade, first, second, third}
 use Rattle.model.specs.Listing.{Register, empty, filled, Seen, nothing, seen, entry, larger, pairAbove, add, see}
 use Rattle.model.specs.Sound.{ownSeen}
-use Rattle.model.proofs.Basics.Tests.{true-T}
+use Rattle.model.proofs.Basics.Tests.{true-T, cond-case}
 use Rattle.model.proofs.Board.Codec.{Fits, FitsRegister, FitsSeen}
 use Rattle.model.proofs.Board.Good.{GoodSeen}
-use Rattle.model.proofs.Listing.Collect.{cond-case}
 use Rattle.model.proofs.Listing.Order.{above-irrefl, above-trans, pair-irrefl, pair-trans}
 
 -- in m a filled register's island is below K; in A and B nothing is asked here

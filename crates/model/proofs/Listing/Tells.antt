@@ -7,8 +7,8 @@ use Prim.Native.Nat.{ℕ, _+_}
 use lib.Dec.{ltb}
 use Rattle.model.specs.Listing.{Order, Flag, Turn, turnM, turnA, turnB, Grade, first, second, third, Register, Seen, nothing, seen}
 use Rattle.model.specs.Listing.{Stage, writing, reading, has-decided, is-spent, Answer, wrote, read, went, marked, adopted, decided, spent, refused}
+use Rattle.model.proofs.Basics.Tests.{cond-case}
 use Rattle.model.specs.Listing.{Move, stay, onward, finish, ended, see, move}
-use Rattle.model.proofs.Listing.Collect.{cond-case}
 
 module _ {F : Type 0} where
   unfoldable pub Tells : Answer F → Stage F → Type 0

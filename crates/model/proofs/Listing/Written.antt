@@ -6,8 +6,8 @@ use mathlib.Core.Option.{Option, none, some}
 use Prim.Native.Nat.{ℕ, _+_}
 use lib.Dec.{ltb}
 use Rattle.model.specs.Listing.{Order, Turn, turnM, turnA, turnB, Grade, first, second, third, Register, Seen, nothing, seen, Stage, reading}
+use Rattle.model.proofs.Basics.Tests.{cond-case}
 use Rattle.model.specs.Listing.{Move, stay, onward, finish, ended, see, move}
-use Rattle.model.proofs.Listing.Collect.{cond-case}
 
 module _ {F : Type 0} (K : ℕ) where
   onward-writes : (c : ℕ) (x : F) → onward K c x .written ≡ none
@@ -24,7 +24,7 @@ module _ {F : Type 0} (K : ℕ) where
   finish-writes (turnB f) c second k y = refl
   finish-writes (turnB f) c third k y = onward-writes c y
 
-  ended-writes : (t : Turn) (c : ℕ) (x : F) (a : Seen F) → ended K t c x a .written ≡ none
+  pub ended-writes : (t : Turn) (c : ℕ) (x : F) (a : Seen F) → ended K t c x a .written ≡ none
   unfolding ended
   ended-writes t c x nothing = finish-writes t c third c x
   ended-writes t c x (seen g k y) = finish-writes t c g k y

@@ -10,9 +10,10 @@ use native.Mathlib.Omega.{arith}
 use lib.Dec.{ltb}
 use borrow.Author.Tests.{lt-ltb, le-ltb}
 use Rattle.model.specs.Listing.{Order, Register, Turn, turnM, turnA, turnB, Grade, first, second, third, Seen, nothing, seen, Stage, writing, reading, Station, active, read, Move, array, placeArray, placeColumn, entry, proposed, stay, onward, finish, ended, see, move}
+use Rattle.model.proofs.Agreement.Cells.{put-put}
 use Rattle.model.proofs.Agreement.State.{State, put, put-same, putWritten, proposing, moveOf, moving}
 use Rattle.model.proofs.Sequential.Turns.{Ended, goOn, stepOnce, stepUntil}
-use Rattle.model.proofs.Sequential.Registers.{either, put-put, Registers, write, write-at}
+use Rattle.model.proofs.Sequential.Registers.{either, Registers, write, write-at}
 use Rattle.model.proofs.Sequential.Collected.{collected}
 
 -- the steps of k turns of the loop, and fuel more

@@ -4,8 +4,9 @@ use mathlib.Core.Path.{_≡_, refl, ap, sym, _∙_}
 use mathlib.Core.Bool.{Bool, true, false, cond}
 use Prim.Native.Nat.{ℕ, _<_}
 use Rattle.model.specs.Listing.{Order, Flag, Register, empty, filled, turnA, Grade, first, second, third, Seen, nothing, seen, larger, add, see}
+use Rattle.model.proofs.Listing.Collect.{Something}
 use Rattle.model.proofs.Sequential.Registers.{either, Holds, All, Figure}
-use Rattle.model.proofs.Sequential.Collected.{IfSeen, HasSeen, Something, Found, found, collected, kept, brought, has-seen}
+use Rattle.model.proofs.Sequential.Collected.{IfSeen, HasSeen, Found, found, collected, kept, brought, has-seen}
 
 -- different figures were met
 unfoldable pub Different : Grade → Type 0

@@ -6,8 +6,9 @@ use mathlib.Core.Bool.{true}
 use Prim.Native.Nat.{ℕ, _<_}
 use native.Mathlib.Omega.{arith}
 use Rattle.model.specs.Listing.{Order, Flag, adopt, commit, Register, empty, filled, turnB, Grade, first, second, third, Seen, nothing, seen, add, see}
+use Rattle.model.proofs.Listing.Collect.{Something}
 use Rattle.model.proofs.Sequential.Registers.{either, Holds, All, Commit}
-use Rattle.model.proofs.Sequential.Collected.{IfSeen, HasSeen, Something, collected, kept, brought, has-seen}
+use Rattle.model.proofs.Sequential.Collected.{IfSeen, HasSeen, collected, kept, brought, has-seen}
 
 -- a commit was met; an adopt was met, or commits of two figures
 MetCommit : Grade → Type 0

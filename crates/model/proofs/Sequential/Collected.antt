@@ -5,7 +5,7 @@ use Prim.Native.Nat.{ℕ, zero, suc, _<_}
 use native.Mathlib.Decide.{ℕ-discrete}
 use native.Mathlib.Omega.{arith}
 use Rattle.model.specs.Listing.{Order, Flag, adopt, commit, Register, empty, filled, Turn, turnM, turnA, turnB, Grade, first, second, third, Seen, nothing, seen, pairAbove, add, see}
-use Rattle.model.proofs.Sequential.Registers.{either}
+use Rattle.model.proofs.Listing.Collect.{Something, add-sees, seen-stays}
 
 module _ {F : Type 0} where
   -- what was seen, if anything, has Q of its grade, island and figure
@@ -17,9 +17,6 @@ module _ {F : Type 0} where
   unfoldable pub HasSeen : (Grade → ℕ → F → Type 0) → Seen F → Type 0
   HasSeen Q nothing = ⊥
   HasSeen Q (seen g k y) = Q g k y
-
-  abbrev pub Something : Seen F → Type 0
-  Something a = HasSeen (λ g k y. Unit) a
 
   -- what was seen, taken apart
   pub record Found (Q : Grade → ℕ → F → Type 0) (a : Seen F) : Type 0 where
@@ -62,31 +59,10 @@ module _ {F : Type 0} where
         by (no ne) before = keep n (collected n) (before (omega arith))
 
   module _ (o : Order F) where
-    add-sees : (t : Turn) (a : Seen F) (f : Flag) (k : ℕ) (y : F) → Something (add o t a f k y)
-    unfolding HasSeen add
-    add-sees turnM nothing f k y = tt
-    add-sees turnM (seen g j x) f k y = either Something (pairAbove o k y j x) tt tt
-    add-sees turnA nothing f k y = tt
-    add-sees turnA (seen first j x) f k y = tt
-    add-sees turnA (seen second j x) f k y = tt
-    add-sees turnA (seen third j x) f k y = tt
-    add-sees (turnB e) nothing adopt k y = tt
-    add-sees (turnB e) nothing commit k y = tt
-    add-sees (turnB e) (seen first j x) adopt k y = tt
-    add-sees (turnB e) (seen first j x) commit k y = tt
-    add-sees (turnB e) (seen second j x) adopt k y = tt
-    add-sees (turnB e) (seen second j x) commit k y = tt
-    add-sees (turnB e) (seen third j x) f k y = tt
-
-    see-sees : (t : Turn) (a : Seen F) (r : Register F) → Something a → Something (see o t a r)
-    unfolding see
-    see-sees t a empty s = s
-    see-sees t a (filled f k y) s = add-sees t a f k y
-
     -- A collect that passed a filled register has seen something.
     pub has-seen : (t : Turn) (r : ℕ → Register F) (n j : ℕ) → j < n
         → (f : Flag) (k : ℕ) (y : F) → r j ≡ filled f k y
         → Something (collected o t r n)
     unfolding see
     has-seen t r n j l f k y e =
-        brought o t r Something n j l (λ a. rw e (add-sees t a f k y)) (λ p a. see-sees t a (r p))
+        brought o t r Something n j l (λ a. rw e (add-sees o t a f k y)) (λ p a. seen-stays o t a (r p))

@@ -8,26 +8,12 @@ use native.Mathlib.Omega.{arith}
 use lib.Dec.{eqb}
 use borrow.Author.Tests.{eq-eqb, ne-eqb}
 use Rattle.model.specs.Listing.{Flag, commit, Register, empty, filled, Array, inM, inA, inB}
-use Rattle.model.proofs.Agreement.State.{put, sameArray, putWritten}
+use Rattle.model.proofs.Basics.Tests.{cond-case}
+use Rattle.model.proofs.Agreement.State.{put, sameArray, array-self, putWritten}
 
 -- a choice of two has what both have
 pub either : {A : Type 0} (P : A → Type 0) (t : Bool) {x y : A} → P x → P y → P (cond t x y)
-either P true px py = px
-either P false px py = py
-
-pub put-put : {A : Type 0} (i : ℕ) (a b : A) (f : ℕ → A) → put i a (put i b f) ≡ put i a f
-unfolding put
-put-put i a b f = λ d j. same (eqb i j) (f j) d
-  where
-    same : (t : Bool) (z : _) → cond t a (cond t b z) ≡ cond t a z
-    same true z = refl
-    same false z = refl
-
-same-array : (a : Array) → sameArray a a ≡ true
-unfolding sameArray
-same-array inM = refl
-same-array (inA k) = eq-eqb k k refl
-same-array (inB k) = eq-eqb k k refl
+either P t {x} {y} px py = cond-case P t x y (λ e. px) (λ e. py)
 
 abbrev pub Registers : Type 0 → Type 0
 Registers F = Array → ℕ → Register F
@@ -75,7 +61,7 @@ module _ {F : Type 0} where
 
   pub write-at : (a : Array) (i : ℕ) (r : Register F) (f : Registers F) → write a i r f a ≡ put i r (f a)
   unfolding putWritten put
-  write-at a i r f = λ d j. cond (same-array a d && eqb i j) r (f a j)
+  write-at a i r f = λ d j. cond (array-self a d && eqb i j) r (f a j)
 
   -- f and g differ at most in the registers of station i
   abbrev pub Apart : ℕ → Registers F → Registers F → Type 0

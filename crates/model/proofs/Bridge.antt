@@ -1,0 +1,3 @@
+-- From bytes to values: the state that a board stands for, the calls on it, lists of calls, and the sequential run.
+pub mod View
+pub mod Single
