@@ -1,3 +1,10 @@
 -- From bytes to values: the state that a board stands for, the calls on it, lists of calls, and the sequential run.
 pub mod View
 pub mod Single
+pub mod Lists
+pub mod Along
+pub mod History
+pub mod Events
+pub mod Until
+pub mod InTurn
+pub mod Seats

@@ -6,4 +6,5 @@ pub mod Calls
 pub mod Agreement
 pub mod Sequential
 pub mod Bridge
+pub mod Demand3
 pub mod Starred

@@ -4,7 +4,7 @@ use mathlib.Core.Path.{_≡_, refl, sym, ap, _∙_, subst}
 use mathlib.Core.Bool.{Bool, true, false}
 use mathlib.Core.List.{List}
 use mathlib.Core.Option.{Option, none, some}
-use Prim.Native.Nat.{ℕ, _-_, _<_}
+use Prim.Native.Nat.{ℕ, _-_, _≤_, _<_}
 use lib.ListN.{length}
 use Rattle.model.specs.Figure.{Figure, figures}
 use Rattle.model.specs.Listing.{Turn, Register, Seen, nothing, Stage, writing, reading, has-decided, is-spent, Station, idle, active, Array, array, entry}
@@ -82,23 +82,25 @@ module _ (n K : ℕ) (b : List ℕ) (q : SoundBoard n K b) (i : ℕ) (own : i < 
 
 -- ---- an accepted proposal, which leaves the bytes d
 
-pub record ProposeSim (i : ℕ) (v : Figure) (b d : List ℕ) : Type 0 where
-  pub on : OnBoard i b
-  pub rests : stationOf (stations b) (islands b) (i - 1) b ≡ idle
-  pub after : view (stations b) (islands b) d ≡ proposing (i - 1) v (view (stations b) (islands b) b)
+pub record ProposeSim (n K i : ℕ) (v : Figure) (b d : List ℕ) : Type 0 where
+  pub positive : 1 ≤ i
+  pub own : i - 1 < n
+  pub rests : stationOf n K (i - 1) b ≡ idle
+  pub after : view n K d ≡ proposing (i - 1) v (view n K b)
 
 idle-of : (z : Station Figure) → notIdle z ≡ none → z ≡ idle
 unfolding notIdle
 idle-of idle e = refl
 idle-of (active v s) e = some-none 13 e
 
-pub propose-sim : (i : ℕ) (v : Figure) (b : List ℕ) → Fits v → Board b → propose i v b .answer ≡ none → ProposeSim i v b (propose i v b .bytes)
+pub propose-sim : (i : ℕ) (v : Figure) (b : List ℕ) → Fits v → Board b → propose i v b .answer ≡ none → ProposeSim (stations b) (islands b) i v b (propose i v b .bytes)
 unfolding propose stationAt proposing
 propose-sim i v b fits h =
-    call-case (λ (a : After Refusal). a .answer ≡ none → ProposeSim i v b (a .bytes)) _ some b _
+    call-case (λ (a : After Refusal). a .answer ≡ none → ProposeSim (stations b) (islands b) i v b (a .bytes)) _ some b _
     (λ e f. let s = station-of i b _ (board-of b _ e .1) in
     record {
-      on = s .0;
+      positive = s .0 .low;
+      own = index-inside i b (s .0);
       rests = idle-of (stationAt i b) (s .1);
       after = view-put-station (stations b) (islands b) b (h .sound-board .len) (i - 1) (index-inside i b (s .0)) (proposed v) (proposed-fits v fits);
     })
@@ -106,14 +108,15 @@ propose-sim i v b fits h =
 
 -- ---- an accepted step, which gives the answer and bytes d
 
-pub record StepSim (i : ℕ) (b : List ℕ) (d : After (Answer Figure)) : Type 0 where
-  pub on : OnBoard i b
+pub record StepSim (n K i : ℕ) (b : List ℕ) (d : After (Answer Figure)) : Type 0 where
+  pub positive : 1 ≤ i
+  pub own : i - 1 < n
   pub proposal : Figure
   pub stage : Stage Figure
-  pub stands : stationOf (stations b) (islands b) (i - 1) b ≡ active proposal stage
+  pub stands : stationOf n K (i - 1) b ≡ active proposal stage
   pub goes : Going stage
-  pub after : view (stations b) (islands b) (d .bytes) ≡ moving figures (stations b) (islands b) (i - 1) proposal stage (view (stations b) (islands b) b)
-  pub says : d .answer ≡ moveOf figures (stations b) (islands b) (i - 1) stage (view (stations b) (islands b) b) .answer
+  pub after : view n K (d .bytes) ≡ moving figures n K (i - 1) proposal stage (view n K b)
+  pub says : d .answer ≡ moveOf figures n K (i - 1) stage (view n K b) .answer
 
 not-refused : (v : Figure) (s : Stage Figure) → Going s → notGoing (active v s) ≡ none
 unfolding notGoing
@@ -123,11 +126,12 @@ not-refused v (has-decided c x) h = absurd h
 not-refused v (is-spent c x) h = absurd h
 
 stepped-sim : (i : ℕ) (b : List ℕ) → Board b → OnBoard i b → (z : Station Figure) → stationOf (stations b) (islands b) (i - 1) b ≡ z → notGoing z ≡ none
-    → StepSim i b (stepped (stations b) (islands b) (i - 1) z b)
+    → StepSim (stations b) (islands b) i b (stepped (stations b) (islands b) (i - 1) z b)
 unfolding stepped access notGoing
 stepped-sim i b h on idle e g = some-none 14 g
 stepped-sim i b h on (active v s) e g = record {
-  on = on;
+  positive = on .low;
+  own = own;
   proposal = v;
   stage = s;
   stands = e;
@@ -154,15 +158,15 @@ stepped-sim i b h on (active v s) e g = record {
     here : SoundStation n K (i - 1) b (active v s)
     here = subst (SoundStation n K (i - 1) b) e (sound-station n K b q (i - 1) own)
 
-stepOn-sim : (i : ℕ) (b : List ℕ) → Board b → accepted (stepOn i b .answer) ≡ true → StepSim i b (stepOn i b)
+stepOn-sim : (i : ℕ) (b : List ℕ) → Board b → accepted (stepOn i b .answer) ≡ true → StepSim (stations b) (islands b) i b (stepOn i b)
 unfolding stepOn stationAt accepted
 stepOn-sim i b h =
-    call-case (λ (d : After (Answer Figure)). accepted (d .answer) ≡ true → StepSim i b d) (stationRefusal i b (notGoing (stationAt i b))) refused b _
+    call-case (λ (d : After (Answer Figure)). accepted (d .answer) ≡ true → StepSim (stations b) (islands b) i b d) (stationRefusal i b (notGoing (stationAt i b))) refused b _
     (λ e f. let s = station-of i b _ e in stepped-sim i b h (s .0) (stationAt i b) refl (s .1)) (λ k e f. clash (sym f))
 
-pub step-sim : (i : ℕ) (b : List ℕ) → Board b → accepted (step i b .answer) ≡ true → StepSim i b (step i b)
+pub step-sim : (i : ℕ) (b : List ℕ) → Board b → accepted (step i b .answer) ≡ true → StepSim (stations b) (islands b) i b (step i b)
 step-sim i b h a =
-    subst (StepSim i b) (sym (step-on i b h))
+    subst (StepSim (stations b) (islands b) i b) (sym (step-on i b h))
     (stepOn-sim i b h (ap (λ (d : After (Answer Figure)). accepted (d .answer)) (sym (step-on i b h)) ∙ a))
 
 -- A going station on a sound board is stepped.

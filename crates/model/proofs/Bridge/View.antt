@@ -24,7 +24,7 @@ inside K inM = true
 inside K (inA c) = ltb c K
 inside K (inB c) = ltb c K
 
-inside-is : (K : ℕ) (a : Array) → inside K a ≡ true → InBoard K a
+pub inside-is : (K : ℕ) (a : Array) → inside K a ≡ true → InBoard K a
 unfolding inside InBoard
 inside-is K inM e = tt
 inside-is K (inA c) e = ltb-true c K e

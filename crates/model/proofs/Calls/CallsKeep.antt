@@ -26,7 +26,7 @@ use Rattle.model.proofs.Board.Keeps.{sound-but, station-keeps}
 use Rattle.model.proofs.Listing.Going.{Going}
 use Rattle.model.proofs.Calls.StepKeeps.{access-keeps}
 use Rattle.model.proofs.Board.Fresh.{length-fresh, fresh-sound}
-use Rattle.model.proofs.Calls.Refusals.{some-none, Shape, shape-of, Board, board-of, OnBoard, station-of, index-inside, call-case}
+use Rattle.model.proofs.Calls.Refusals.{some-none, Shape, shape-of, Board, board-of, OnBoard, station-of, index-inside, call-case, step-on}
 
 -- A sound board with the head as it was passes 7 to 11 again.
 board-again : (b d : List ℕ) → Board b → byte d 0 ≡ byte b 0 → byte d 1 ≡ byte b 1 → SoundBoard (stations b) (islands b) d → Board d
@@ -45,7 +45,7 @@ board-again b d h en eK s = record {
 
 -- ---- laying
 
-fresh-board : (n K : ℕ) (b : List ℕ) → Shape n K b → Board (freshBoard n K)
+pub fresh-board : (n K : ℕ) (b : List ℕ) → Shape n K b → Board (freshBoard n K)
 unfolding freshBoard stations islands
 fresh-board n K b s = record {
   shape = record {
@@ -165,3 +165,29 @@ pub step-keeps : (i : ℕ) (b : List ℕ) → Board b → Board (step i b .bytes
 unfolding step
 step-keeps i b h =
     call-case (λ (a : After (Answer Figure)). Board (a .bytes)) (boardRefusal b none) refused b (stepOn i b) (λ e. stepOn-keeps i b h) (λ k e. h)
+
+-- ---- the head stays
+
+pub propose-head : (i : ℕ) (v : Figure) (b : List ℕ) → Board b → (k : ℕ) → k < 8 → byte (propose i v b .bytes) k ≡ byte b k
+unfolding propose
+propose-head i v b h k l =
+    call-case (λ (a : After Refusal). byte (a .bytes) k ≡ byte b k) _ some b _
+    (λ e. station-head (stations b) (islands b) b (h .sound-board .len) (i - 1) (index-inside i b (station-of i b _ (board-of b _ e .1) .0)) (proposed v) k l)
+    (λ j e. refl)
+
+stepped-head : (i : ℕ) (b : List ℕ) → Board b → i < stations b → (z : Station Figure) → GoodStation (stations b) (islands b) z → notGoing z ≡ none
+    → (k : ℕ) → k < 8 → byte (stepped (stations b) (islands b) i z b .bytes) k ≡ byte b k
+unfolding stepped
+stepped-head i b h own idle g e k l = refl
+stepped-head i b h own (active v s) g e k l =
+    access-head (stations b) (islands b) b (h .sound-board .len) i own v s (good-stage (stations b) (islands b) v s g) (going-of v s e) k l
+
+pub step-head : (i : ℕ) (b : List ℕ) → Board b → (k : ℕ) → k < 8 → byte (step i b .bytes) k ≡ byte b k
+unfolding stepOn stationAt
+step-head i b h k l =
+    ap (λ (a : After (Answer Figure)). byte (a .bytes) k) (step-on i b h)
+    ∙ call-case (λ (a : After (Answer Figure)). byte (a .bytes) k ≡ byte b k) (stationRefusal i b (notGoing (stationAt i b))) refused b _
+    (λ e. let s = station-of i b _ e in
+    stepped-head (i - 1) b h (index-inside i b (s .0)) (stationAt i b)
+    (sound-station (stations b) (islands b) b (h .sound-board) (i - 1) (index-inside i b (s .0)) .good) (s .1) k l)
+    (λ j e. refl)

@@ -36,13 +36,13 @@ module _ {F : Type 0} where
   AllFresh st [] = Unit
   AllFresh st (p ∷ rest) = Fresh st (p .0) × AllFresh st rest
 
-  initial-fresh : (l : List (ℕ × F)) → AllFresh initial l
+  pub initial-fresh : (l : List (ℕ × F)) → AllFresh initial l
   unfolding AllFresh initial
   initial-fresh [] = tt
   initial-fresh (p ∷ rest) = (record { rests = refl; blank = λ a. refl }, initial-fresh rest)
 
   -- the turn of a station leaves the others fresh
-  still-fresh : {n : ℕ} {v : F} {i : ℕ} {w : F} {st : State F} {e : Ended F} → Decides n v i w st e
+  pub still-fresh : {n : ℕ} {v : F} {i : ℕ} {w : F} {st : State F} {e : Ended F} → Decides n v i w st e
       → (l : List (ℕ × F)) → NotAmong i l → AllFresh st l → AllFresh (e .state) l
   unfolding AllFresh NotAmong
   still-fresh d [] ne h = tt
