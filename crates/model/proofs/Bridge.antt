@@ -2,6 +2,7 @@
 pub mod View
 pub mod Single
 pub mod Lists
+pub mod RunCalls
 pub mod Along
 pub mod History
 pub mod Events

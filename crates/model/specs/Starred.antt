@@ -69,6 +69,11 @@ rows =
     -- "n = 1, K = 2: six steps decide": not five, and a seventh is refused
     ∷ record { gives = play 1 2 (pos 9 ∷ []) (times 5 (1 ∷ [])); says = ended 5 0 (text "(stations (1 going 0 9))") }
     ∷ record { gives = play 1 2 (pos 9 ∷ []) (times 7 (1 ∷ [])); says = ended 6 1 (text "(stations (1 decided 0 9))") }
+    -- not starred: station 2 is halted between two reads of its collect of m, the others settle on 7, and it comes back
+    ∷ record {
+      gives = play 3 2 (pos 7 ∷ pos 3 ∷ pos 5 ∷ []) (times 2 (2 ∷ []) ++ times 12 (1 ∷ []) ++ times 12 (3 ∷ []) ++ times 22 (2 ∷ []));
+      says = ended 48 0 (text "(stations (1 decided 0 7) (2 decided 1 7) (3 decided 0 7))");
+    }
     -- "n = 16, K = 64 laid in 16,904 bytes; in 16,903 gives 10"; "n = 17 gives 8"; "K = 1 gives 9"
     ∷ record { gives = layIn 16904 16 64; says = laid 16904 }
     ∷ record { gives = layIn 16903 16 64; says = turnedDown 10 }
