@@ -4,7 +4,9 @@ pub mod Cells
 pub mod Registers
 pub mod Reads
 pub mod Own
-pub mod Pairs
+pub mod Passed
+pub mod PairsA
+pub mod PairsB
 pub mod Licences
 pub mod Invariant
 pub mod Restage

@@ -11,7 +11,8 @@ use Rattle.model.proofs.Agreement.Cells.{Cell, cells}
 use Rattle.model.proofs.Listing.Collect.{Filled}
 use Rattle.model.proofs.Agreement.Registers.{Says, Marked, marked-filled}
 use Rattle.model.proofs.Agreement.Own.{Proposes, filled-near}
-use Rattle.model.proofs.Agreement.Pairs.{committed, MayPass, past}
+use Rattle.model.proofs.Agreement.PairsA.{committed}
+use Rattle.model.proofs.Agreement.PairsB.{MayPass, past}
 use Rattle.model.proofs.Agreement.Licences.{Out, Licensed}
 use Rattle.model.proofs.Agreement.Invariant.{Kept, own-at, held-at}
 use Rattle.model.proofs.Agreement.Calls.{Inv}

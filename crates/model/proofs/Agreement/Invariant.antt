@@ -8,7 +8,9 @@ use Rattle.model.proofs.Agreement.State.{put}
 use Rattle.model.proofs.Agreement.Cells.{Cell, standing, on-put, on-put₂}
 use Rattle.model.proofs.Agreement.Registers.{Says, Marked, Figure, says-one}
 use Rattle.model.proofs.Agreement.Own.{Own}
-use Rattle.model.proofs.Agreement.Pairs.{Passed, CanMiss, MayPass, passed-marked, may-marked, not-itself}
+use Rattle.model.proofs.Agreement.Passed.{Passed, passed-marked}
+use Rattle.model.proofs.Agreement.PairsA.{CanMiss}
+use Rattle.model.proofs.Agreement.PairsB.{MayPass, may-marked, not-itself}
 use Rattle.model.proofs.Agreement.Licences.{Holds, Sighted, Committed, Licensed, Steady, committed-stays, licensed-stays}
 
 module _ {F : Type 0} (n : ℕ) where

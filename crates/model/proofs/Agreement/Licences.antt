@@ -9,7 +9,7 @@ use Rattle.model.proofs.Agreement.Cells.{Cell, on-put}
 use Rattle.model.proofs.Listing.Collect.{Filled}
 use Rattle.model.proofs.Agreement.Registers.{Says, Marked, Best, Met, marked-filled}
 use Rattle.model.proofs.Agreement.Own.{Later, Proposes}
-use Rattle.model.proofs.Agreement.Pairs.{MayPass}
+use Rattle.model.proofs.Agreement.PairsB.{MayPass}
 
 module _ {F : Type 0} where
   -- the station carries the figure y at island k, or has it for the best of a collect under way; a proposal before the

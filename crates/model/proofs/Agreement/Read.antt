@@ -12,7 +12,8 @@ use Rattle.model.proofs.Agreement.Cells.{Cell, standing}
 use Rattle.model.proofs.Agreement.Registers.{Says, Marked, Figure, Best, Met, Left, Brought, Clean, Harmless, says-one}
 use Rattle.model.proofs.Agreement.Reads.{located, met, kept, brought, clean}
 use Rattle.model.proofs.Agreement.Own.{Mine}
-use Rattle.model.proofs.Agreement.Pairs.{Passed, MayPass, passing, past}
+use Rattle.model.proofs.Agreement.Passed.{Passed}
+use Rattle.model.proofs.Agreement.PairsB.{MayPass, passing, past}
 use Rattle.model.proofs.Agreement.Licences.{Sighted, Committed, Licensed}
 use Rattle.model.proofs.Agreement.Invariant.{Kept, own-at, held-at, sighted-at}
 use Rattle.model.proofs.Agreement.Restage.{Restaged, restages}

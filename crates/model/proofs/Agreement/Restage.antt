@@ -9,7 +9,9 @@ use Rattle.model.proofs.Agreement.State.{put}
 use Rattle.model.proofs.Agreement.Cells.{Cell, standing}
 use Rattle.model.proofs.Agreement.Registers.{Says, Marked}
 use Rattle.model.proofs.Agreement.Own.{Proposes, Later, Begun, reach, Mine}
-use Rattle.model.proofs.Agreement.Pairs.{Passed, About, CanMiss, passing, to-commit, committed, MayPass, committing, writing-may-not}
+use Rattle.model.proofs.Agreement.Passed.{Passed, About}
+use Rattle.model.proofs.Agreement.PairsA.{CanMiss, unmet, to-commit, committed}
+use Rattle.model.proofs.Agreement.PairsB.{MayPass, committing, writing-may-not}
 use Rattle.model.proofs.Agreement.Licences.{Holds, Sighted, Committed, Licensed, Steady, licensed-stays}
 use Rattle.model.proofs.Agreement.Invariant.{Kept, keeps, own-at}
 
@@ -46,13 +48,13 @@ module _ {F : Type 0} (n : ℕ) where
     missed : (j k : ℕ) (x y : F) → j < n → CanMiss k j new → Says (f i .register (inA k)) x
         → Says (f j .register (inA k)) y
         → (CanMiss k j (f i) × Says (f i .register (inA k)) x) ⊎ (x ≡ y)
-    missed j k x y b (passing p) q r = go (d .misses j k x y p q r)
+    missed j k x y b (unmet p) q r = go (d .misses j k x y p q r)
       where
         go : Passed turnA k j from ⊎ (x ≡ y) → (CanMiss k j (f i) × Says (f i .register (inA k)) x) ⊎ (x ≡ y)
-        go (inl m) = inl (passing (subst (λ (s : Station F). Passed turnA k j s) (sym is) m), q)
+        go (inl m) = inl (unmet (subst (λ (s : Station F). Passed turnA k j s) (sym is) m), q)
         go (inr e) = inr e
     missed j k x y b (to-commit p) q r =
-        inl (passing (subst (λ (s : Station F). Passed turnA k j s) (sym is) (d .to-commit j k b p)), q)
+        inl (unmet (subst (λ (s : Station F). Passed turnA k j s) (sym is) (d .to-commit j k b p)), q)
     missed j k x y b (committed p) q r = inl (committed p, q)
 
     pub restages : Kept n (put i (standing to (f i)) f)

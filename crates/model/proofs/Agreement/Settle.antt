@@ -12,7 +12,8 @@ use Rattle.model.proofs.Agreement.State.{put}
 use Rattle.model.proofs.Agreement.Cells.{Cell, standing}
 use Rattle.model.proofs.Agreement.Registers.{Says, Marked, Brought, marked-filled}
 use Rattle.model.proofs.Agreement.Own.{after, Mine, filled-near}
-use Rattle.model.proofs.Agreement.Pairs.{Passed, MayPass, passing, past, may-awake, committing, spent-may-not}
+use Rattle.model.proofs.Agreement.Passed.{Passed}
+use Rattle.model.proofs.Agreement.PairsB.{MayPass, passing, past, may-awake, committing, spent-may-not}
 use Rattle.model.proofs.Agreement.Licences.{Out, Licensed}
 use Rattle.model.proofs.Agreement.Invariant.{Kept, own-at, held-at, sighted-at}
 use Rattle.model.proofs.Agreement.Restage.{Restaged, restages, to-writing}

@@ -11,7 +11,9 @@ use Rattle.model.proofs.Agreement.Cells.{Cell}
 use Rattle.model.proofs.Listing.Collect.{Filled}
 use Rattle.model.proofs.Agreement.Registers.{Says, Marked}
 use Rattle.model.proofs.Agreement.Own.{Proposes, Later, Mine}
-use Rattle.model.proofs.Agreement.Pairs.{Passed, About, CanMiss, passing, to-commit, committed, MayPass, past}
+use Rattle.model.proofs.Agreement.Passed.{Passed, About}
+use Rattle.model.proofs.Agreement.PairsA.{CanMiss, unmet, to-commit, committed}
+use Rattle.model.proofs.Agreement.PairsB.{passing, MayPass, past}
 use Rattle.model.proofs.Agreement.Licences.{Sighted, Committed, Licensed, Steady, licensed-stays}
 use Rattle.model.proofs.Agreement.Invariant.{Kept, keeps, own-at, held-at}
 use Rattle.model.proofs.Agreement.Writes.{wrote, Early, wrote-same, wrote-fills, wrote-stays, wrote-early, wrote-left, wrote-commits, wrote-over, wrote-stored}
@@ -76,7 +78,7 @@ module _ {F : Type 0} (n : ℕ) {f : ℕ → Cell F} (i : ℕ) (v : F) (t : Turn
   missed : (j k : ℕ) (y z : F) → j < n → CanMiss k j new → Says (wrote t c x R (inA k)) y
       → Says (f j .register (inA k)) z
       → (CanMiss k j (f i) × Says (R (inA k)) y) ⊎ (y ≡ z)
-  missed j k y z b (passing q) s r = none-passed turnA k j q
+  missed j k y z b (unmet q) s r = none-passed turnA k j q
   missed j k y z b (to-commit q) s r = absurd q
   missed j k y z b (committed m) s r = go (wrote-commits c x R t early-before k y m s)
     where
