@@ -6,3 +6,4 @@ pub mod CallsKeep
 pub mod Refused
 pub mod Local
 pub mod Runs
+pub mod Accepted

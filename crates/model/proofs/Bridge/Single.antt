@@ -24,7 +24,8 @@ use Rattle.model.proofs.Calls.Access.{write-bytes, read-bytes}
 use Rattle.model.proofs.Listing.Going.{Going}
 use Rattle.model.proofs.Calls.StepKeeps.{entry-fits}
 use Rattle.model.proofs.Calls.CallsKeep.{going-of, proposed-fits, good-stage, station-of-fits}
-use Rattle.model.proofs.Calls.Refusals.{some-none, Board, board-of, OnBoard, station-of, station-passes, index-inside, call-case, step-on}
+use Rattle.model.proofs.Calls.Refusals.{some-none, Board, board-of, OnBoard, station-of, index-inside, call-case, step-on}
+use Rattle.model.proofs.Calls.Accepted.{stepOn-access}
 use Rattle.model.proofs.Calls.Refused.{access-accepts}
 use Rattle.model.proofs.Agreement.State.{State, put, putWritten, proposing, moveOf, moving}
 use Rattle.model.proofs.Bridge.View.{view, view-station, view-register, view-put-station, view-put-register}
@@ -118,13 +119,6 @@ pub record StepSim (n K i : ℕ) (b : List ℕ) (d : After (Answer Figure)) : Ty
   pub after : view n K (d .bytes) ≡ moving figures n K (i - 1) proposal stage (view n K b)
   pub says : d .answer ≡ moveOf figures n K (i - 1) stage (view n K b) .answer
 
-not-refused : (v : Figure) (s : Stage Figure) → Going s → notGoing (active v s) ≡ none
-unfolding notGoing
-not-refused v (writing t c x) h = refl
-not-refused v (reading t c x p a) h = refl
-not-refused v (has-decided c x) h = absurd h
-not-refused v (is-spent c x) h = absurd h
-
 stepped-sim : (i : ℕ) (b : List ℕ) → Board b → OnBoard i b → (z : Station Figure) → stationOf (stations b) (islands b) (i - 1) b ≡ z → notGoing z ≡ none
     → StepSim (stations b) (islands b) i b (stepped (stations b) (islands b) (i - 1) z b)
 unfolding stepped access notGoing
@@ -172,11 +166,7 @@ step-sim i b h a =
 -- A going station on a sound board is stepped.
 pub going-steps : (i : ℕ) (b : List ℕ) → Board b → OnBoard i b → (v : Figure) (s : Stage Figure)
     → stationOf (stations b) (islands b) (i - 1) b ≡ active v s → Going s → accepted (step i b .answer) ≡ true
-unfolding stepOn stationAt unlessRefused stepped
+unfolding stationAt
 going-steps i b h on v s e g =
-    ap (λ (d : After (Answer Figure)). accepted (d .answer))
-    (step-on i b h
-    ∙ ap (λ (r : Refusal). unlessRefused r refused b (stepped (stations b) (islands b) (i - 1) (stationAt i b) b))
-    (station-passes i b on (notGoing (stationAt i b)) ∙ ap notGoing e ∙ not-refused v s g)
-    ∙ ap (λ (z : Station Figure). stepped (stations b) (islands b) (i - 1) z b) e)
+    ap (λ (d : After (Answer Figure)). accepted (d .answer)) (step-on i b h ∙ stepOn-access i b on v s e g)
     ∙ access-accepts (stations b) (islands b) (i - 1) v s b g

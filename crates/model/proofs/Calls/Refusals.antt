@@ -9,6 +9,7 @@ use Prim.Native.Nat.{ℕ, _-_, _≤_, _<_}
 use native.Mathlib.Omega.{arith}
 use lib.Dec.{T, eqb, leb, leb→le, le→leb, eqb→eq}
 use lib.ListN.{length}
+use borrow.Author.Tests.{lt-leb, ne-eqb}
 use Rattle.model.specs.Layout.{boardLength}
 use Rattle.model.specs.Sound.{sound}
 use Rattle.model.specs.Calls.{After, Refusal, unless, shapeRefusal, stations, islands, boardRefusal, stationRefusal, unlessRefused, stepOn, step}
@@ -34,6 +35,11 @@ pub unless-none : (t : Bool) (k : ℕ) (later : Refusal) → unless t k later �
 unfolding unless
 unless-none true k later e = (tt, e)
 unless-none false k later e = some-none k e
+
+-- A check that fails answers its number, whatever comes later.
+pub unless-fails : (t : Bool) (k : ℕ) (later : Refusal) → t ≡ false → unless t k later ≡ some k
+unfolding unless
+unless-fails t k later e = ap (λ (b : Bool). unless b k later) e
 
 -- 7 to 10 are passed.
 pub record Shape (n K : ℕ) (b : List ℕ) : Type 0 where
@@ -77,6 +83,47 @@ module _ (n K : ℕ) (b : List ℕ) where
       ∙ unless-passes (leb 2 K && leb K 64) 9 _ (within-T 2 64 K (s .islands-low) (s .islands-high))
       ∙ unless-passes (eqb (length b) (boardLength n K)) 10 later (eq-T (length b) (boardLength n K) (s .len))
 
+-- A number outside its range, below it or above.
+outside-low : (low high x : ℕ) → x < low → leb low x && leb x high ≡ false
+outside-low low high x h = ap (λ (t : Bool). t && leb x high) (lt-leb low x h)
+
+outside-high : (low high x : ℕ) → high < x → leb low x && leb x high ≡ false
+outside-high low high x h = ap (λ (t : Bool). leb low x && t) (lt-leb x high h) ∙ none-left (leb low x)
+  where
+    none-left : (t : Bool) → t && false ≡ false
+    none-left true = refl
+    none-left false = refl
+
+-- 7 to 10 as the code meets them: each fails after those before it have passed.
+module _ (n K : ℕ) (b : List ℕ) (later : Refusal) where
+  pub shape-7 : length b < 8 → shapeRefusal n K b later ≡ some 7
+  unfolding shapeRefusal
+  shape-7 h = unless-fails (leb 8 (length b)) 7 _ (lt-leb 8 (length b) h)
+
+  after-7 : 8 ≤ length b → shapeRefusal n K b later ≡ unless (leb 1 n && leb n 16) 8 (unless (leb 2 K && leb K 64) 9 (unless (eqb (length b) (boardLength n K)) 10 later))
+  unfolding shapeRefusal
+  after-7 h = unless-passes (leb 8 (length b)) 7 _ (le→leb 8 (length b) h)
+
+  pub shape-8-low : 8 ≤ length b → n < 1 → shapeRefusal n K b later ≡ some 8
+  shape-8-low h l = after-7 h ∙ unless-fails (leb 1 n && leb n 16) 8 _ (outside-low 1 16 n l)
+
+  pub shape-8-high : 8 ≤ length b → 16 < n → shapeRefusal n K b later ≡ some 8
+  shape-8-high h l = after-7 h ∙ unless-fails (leb 1 n && leb n 16) 8 _ (outside-high 1 16 n l)
+
+  after-8 : 8 ≤ length b → 1 ≤ n → n ≤ 16 → shapeRefusal n K b later ≡ unless (leb 2 K && leb K 64) 9 (unless (eqb (length b) (boardLength n K)) 10 later)
+  after-8 h l m = after-7 h ∙ unless-passes (leb 1 n && leb n 16) 8 _ (within-T 1 16 n l m)
+
+  pub shape-9-low : 8 ≤ length b → 1 ≤ n → n ≤ 16 → K < 2 → shapeRefusal n K b later ≡ some 9
+  shape-9-low h l m k = after-8 h l m ∙ unless-fails (leb 2 K && leb K 64) 9 _ (outside-low 2 64 K k)
+
+  pub shape-9-high : 8 ≤ length b → 1 ≤ n → n ≤ 16 → 64 < K → shapeRefusal n K b later ≡ some 9
+  shape-9-high h l m k = after-8 h l m ∙ unless-fails (leb 2 K && leb K 64) 9 _ (outside-high 2 64 K k)
+
+  pub shape-10 : 8 ≤ length b → 1 ≤ n → n ≤ 16 → 2 ≤ K → K ≤ 64 → (length b ≡ boardLength n K → ⊥) → shapeRefusal n K b later ≡ some 10
+  shape-10 h l m k o f =
+      after-8 h l m ∙ unless-passes (leb 2 K && leb K 64) 9 _ (within-T 2 64 K k o)
+      ∙ unless-fails (eqb (length b) (boardLength n K)) 10 later (ne-eqb (length b) (boardLength n K) f)
+
 -- 7 to 11 are passed: what every call but laying asks of a board.
 pub record Board (b : List ℕ) : Type 0 where
   pub shape : Shape (stations b) (islands b) b
@@ -95,6 +142,21 @@ board-passes b h later =
     shape-passes (stations b) (islands b) b (h .shape) _
     ∙ unless-passes (sound (stations b) (islands b) b) 11 later (facts-sound (stations b) (islands b) b (h .sound-board))
 
+-- A refusal does not depend on what would have been asked later.
+unless-later : (t : Bool) (k : ℕ) (a b : Refusal) (j : ℕ) → (a ≡ some j → b ≡ some j) → unless t k a ≡ some j → unless t k b ≡ some j
+unfolding unless
+unless-later true k a b j f e = f e
+unless-later false k a b j f e = e
+
+pub board-first : (b : List ℕ) (later : Refusal) (k : ℕ) → boardRefusal b none ≡ some k → boardRefusal b later ≡ some k
+unfolding boardRefusal shapeRefusal
+board-first b later k =
+    unless-later (leb 8 (length b)) 7 _ _ k
+    (unless-later (leb 1 (stations b) && leb (stations b) 16) 8 _ _ k
+    (unless-later (leb 2 (islands b) && leb (islands b) 64) 9 _ _ k
+    (unless-later (eqb (length b) (boardLength (stations b) (islands b))) 10 _ _ k
+    (unless-later (sound (stations b) (islands b) b) 11 none later k (λ e. some-none k (sym e))))))
+
 -- 12 is passed: the station is on the board.
 pub record OnBoard (i : ℕ) (b : List ℕ) : Type 0 where
   pub low : 1 ≤ i
@@ -109,6 +171,14 @@ station-of i b later e =
 pub station-passes : (i : ℕ) (b : List ℕ) → OnBoard i b → (later : Refusal) → stationRefusal i b later ≡ later
 unfolding stationRefusal
 station-passes i b h later = unless-passes (leb 1 i && leb i (stations b)) 12 later (within-T 1 (stations b) i (h .low) (h .high))
+
+pub station-12-low : (i : ℕ) (b : List ℕ) (later : Refusal) → i < 1 → stationRefusal i b later ≡ some 12
+unfolding stationRefusal
+station-12-low i b later h = unless-fails (leb 1 i && leb i (stations b)) 12 later (outside-low 1 (stations b) i h)
+
+pub station-12-high : (i : ℕ) (b : List ℕ) (later : Refusal) → stations b < i → stationRefusal i b later ≡ some 12
+unfolding stationRefusal
+station-12-high i b later h = unless-fails (leb 1 i && leb i (stations b)) 12 later (outside-high 1 (stations b) i h)
 
 pub index-inside : (i : ℕ) (b : List ℕ) → OnBoard i b → i - 1 < stations b
 index-inside i b h = omega (arith, h .low, h .high)

@@ -19,7 +19,7 @@ unfoldable pub counted : (Answer Figure → Bool) → List (Answer Figure) → �
 counted f [] = 0
 counted f (x ∷ xs) = cond (f x) 1 0 + counted f xs
 
-tally-taken : (r : Ran) (t : Bool) → tally r t .taken ≡ r .taken + cond t 1 0
+pub tally-taken : (r : Ran) (t : Bool) → tally r t .taken ≡ r .taken + cond t 1 0
 unfolding tally
 tally-taken r true = refl
 tally-taken r false = omega arith

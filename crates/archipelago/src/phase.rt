@@ -1,0 +1,21 @@
+// The phases of a record from its proposal on, and the marks of a register: in m and A that it is written, in B its flag.
+// Relies on nothing; every move relies on it.
+pub const WRITE_M: u8 = 1;
+
+pub const READ_M: u8 = 2;
+
+pub const WRITE_A: u8 = 3;
+
+pub const READ_A: u8 = 4;
+
+pub const WRITE_B: u8 = 5;
+
+pub const DECIDED: u8 = 7;
+
+pub const SPENT: u8 = 8;
+
+pub const WRITTEN: u8 = 1;
+
+pub const ADOPT: u8 = 1;
+
+pub const COMMIT: u8 = 2;

@@ -1,0 +1,2 @@
+-- Laws that the calls' proofs share.
+pub mod Laws

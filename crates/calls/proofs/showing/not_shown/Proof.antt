@@ -1,0 +1,13 @@
+use borrow.Author.Needs.{needs}
+use Rattle.calls.proofs.Laws.Showing.{not-shown}
+use Rattle.calls.proofs.showing.not_shown.Statement.{statement}
+use Rattle.calls.proofs.showing.not_shown.Tie as tie
+use Rattle.calls.proofs.showing.not_shown.Reads as reads
+use Rattle.calls.proofs.showing.not_shown.Lts as lts
+
+-- src/showing.rt:22:1
+returns : tie.Need-returns
+returns c = not-shown _
+
+pub not-shown-spec : {M : Type 1} → statement M
+not-shown-spec = tie.close (tie.spec returns)

@@ -1,0 +1,43 @@
+-- What the inner functions of a step promise, for a record f that stands for a going station.
+-- Relies on the model's calls; the contracts of the step's inner functions rely on it.
+use mathlib.Core.Path.{_≡_}
+use mathlib.Core.Bool.{cond}
+use mathlib.Core.List.{List}
+use Prim.Native.Nat.{ℕ, _≤_, _<_}
+use lib.ListN.{length}
+use Rattle.model.specs.declared.Record.{Record}
+use Rattle.model.specs.declared.StepAnswer.{StepAnswer}
+use Rattle.model.specs.Figure.{Figure}
+use Rattle.model.specs.Listing.{Stage, active, placeArray, placeColumn, accepted}
+use Rattle.model.specs.Layout.{boardLength, registerAt, recordValue}
+use Rattle.model.specs.Calls.{access, stepOn, ranFrom, notYet}
+use Rattle.model.specs.Told.{told}
+
+-- the offset r of the one register that station index j touches next
+unfoldable pub Touches : (n j : ℕ) (f : Record) (r : ℕ) → Type 0
+Touches n j f r = (s : Stage Figure) → recordValue f ≡ active (f .proposal) s → r ≡ registerAt n (placeArray s) (placeColumn j s)
+
+-- the answer r and the bytes d of an accepted step of station index j on the board b
+unfoldable pub Accesses : (n K j : ℕ) (f : Record) (b : List ℕ) (r : StepAnswer) (d : List ℕ) → Type 0
+Accesses n K j f b r d =
+    (s : Stage Figure) → recordValue f ≡ active (f .proposal) s
+    → (told r ≡ access n K j (f .proposal) s b .answer) × (d ≡ access n K j (f .proposal) s b .bytes)
+
+-- the size of a board and a station index on it
+pub record OnSize (n K j : ℕ) (b : List ℕ) : Type 0 where
+  pub stations : n ≤ 16
+  pub islands : K ≤ 64
+  pub own : j < n
+  pub len : length b ≡ boardLength n K
+
+-- a step's answer r and bytes d, as the model's step on a sound board gives them
+unfoldable pub StepsOn : (i : ℕ) (b : List ℕ) (r : StepAnswer) (d : List ℕ) → Type 0
+StepsOn i b r d = (told r ≡ stepOn i b .answer) × (d ≡ stepOn i b .bytes)
+
+-- 1 for a step taken, 0 for a refused one
+unfoldable pub counts : StepAnswer → ℕ
+counts a = cond (accepted (told a)) 1 0
+
+-- the steps r taken by the stations `is` one after another on a sound board b, and the bytes d afterwards
+unfoldable pub RunsOn : (is b : List ℕ) (r : ℕ) (d : List ℕ) → Type 0
+RunsOn is b r d = (r ≡ ranFrom stepOn (notYet b) is .answer .taken) × (r ≤ length is) × (d ≡ ranFrom stepOn (notYet b) is .bytes)

@@ -1,0 +1,49 @@
+// Laying a fresh board in lent memory.
+// Relies on the places of a board; it is a public call.
+ghost use mathlib.Core.Path.{_≡_};
+ghost use mathlib.Core.List.{List, _++_};
+ghost use Prim.Native.Nat.{_≤_};
+ghost use lib.ListN.{length, replicate};
+ghost use Rattle.model.specs.Layout.{freshBoard};
+ghost use Rattle.model.specs.Calls.{lay};
+ghost use Rattle.model.specs.Told.{verdict};
+use model::Verdict;
+
+// Zero in every byte.
+fn clear(s: &mut [u8])
+    ensures { λ r. ⌜ now (s .exit) ≡ replicate (length (now (s .entry))) 0 ⌝ }
+{
+    let mut i = 0;
+    while i < s.len() {
+        s[i] = 0;
+        i += 1;
+    }
+}
+
+// "n and K as given when laying"; what the memory held before does not matter.
+pub fn lay(board: &mut [u8], n: u8, k: u8) -> Verdict
+    ensures { λ r. ⌜ (verdict r ≡ lay n k (now (board .entry)) .answer) × (now (board .exit) ≡ lay n k (now (board .entry)) .bytes) ⌝ }
+{
+    if board.len() < 8 {
+        return Verdict::Refused { number: 7 };
+    }
+    if n < 1 {
+        return Verdict::Refused { number: 8 };
+    }
+    if 16 < n {
+        return Verdict::Refused { number: 8 };
+    }
+    if k < 2 {
+        return Verdict::Refused { number: 9 };
+    }
+    if 64 < k {
+        return Verdict::Refused { number: 9 };
+    }
+    if board.len() != super::places::board_length(n as usize, k as usize) {
+        return Verdict::Refused { number: 10 };
+    }
+    clear(board);
+    board[0] = n;
+    board[1] = k;
+    Verdict::Accepted
+}

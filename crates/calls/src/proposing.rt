@@ -1,0 +1,63 @@
+// Proposing a figure for an idle station.
+// Relies on the test of a board and on the codec; it is a public call.
+ghost use mathlib.Core.Path.{_≡_};
+ghost use mathlib.Core.Option.{none};
+ghost use Rattle.model.specs.Listing.{proposed};
+ghost use Rattle.model.specs.Layout.{recordFields};
+ghost use Rattle.model.specs.Calls.{boardRefusal, propose};
+ghost use Rattle.model.specs.Told.{verdict};
+use crate::places::record_offset;
+use codec::records::put_record;
+use codec::records::record_at;
+use model::Record;
+use model::Verdict;
+use soundness::board::check_board;
+
+// "phase 1, c = 0, proposal and carried = the figure"
+fn beginning(figure: i32) -> Record
+    ensures { λ r. ⌜ r ≡ recordFields (proposed figure) ⌝ }
+{
+    Record {
+        phase: 1,
+        position: 0,
+        island: 0,
+        seen: 0,
+        highest: 0,
+        flag: 0,
+        proposal: figure,
+        carried: figure,
+        best: 0,
+    }
+}
+
+// A proposal on a board that is known to be sound.
+fn propose_on(board: &mut [u8], station: u8, figure: i32) -> Verdict
+    requires { ⌜ boardRefusal (now board) none ≡ none ⌝ }
+    ensures { λ r. ⌜ (verdict r ≡ propose station figure (now (board .entry)) .answer) × (now (board .exit) ≡ propose station figure (now (board .entry)) .bytes) ⌝ }
+{
+    let n = board[0];
+    let k = board[1];
+    if station < 1 {
+        return Verdict::Refused { number: 12 };
+    }
+    if n < station {
+        return Verdict::Refused { number: 12 };
+    }
+    let at = record_offset(n as usize, k as usize, station as usize - 1);
+    let own = record_at(board, at);
+    if own.phase != 0 {
+        return Verdict::Refused { number: 13 };
+    }
+    put_record(board, at, beginning(figure));
+    Verdict::Accepted
+}
+
+pub fn propose(board: &mut [u8], station: u8, figure: i32) -> Verdict
+    ensures { λ r. ⌜ (verdict r ≡ propose station figure (now (board .entry)) .answer) × (now (board .exit) ≡ propose station figure (now (board .entry)) .bytes) ⌝ }
+{
+    let checked = check_board(board);
+    match checked {
+        Verdict::Refused { number } => Verdict::Refused { number },
+        Verdict::Accepted => propose_on(board, station, figure),
+    }
+}

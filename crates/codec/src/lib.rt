@@ -1,0 +1,6 @@
+// Bytes to fields and back, exactly as model/specs/Layout.antt says: figures, registers and records at a place of a board.
+// Relies on the crate model; soundness and the calls rely on it. Every function is straight-line code.
+pub mod figures; // four bytes as a signed number
+pub mod cells; // eight bytes put at a place
+pub mod registers; // a register's eight bytes
+pub mod records; // a station record's 24 bytes

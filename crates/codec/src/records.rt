@@ -1,0 +1,58 @@
+// A station record's 24 bytes: six fields of a byte, two zeros, three figures, four zeros.
+// Relies on figures and cells; the soundness test and the calls rely on it.
+ghost use mathlib.Core.Path.{_≡_};
+ghost use Prim.Native.Nat.{_+_, _≤_};
+ghost use lib.ListN.{length};
+ghost use Rattle.model.specs.Bytes.{part, splice};
+ghost use Rattle.model.specs.Layout.{readRecord, layRecord};
+use crate::cells::put_cell;
+use crate::figures::figure_at;
+use crate::figures::figure_bytes;
+use model::Record;
+
+pub fn record_at(s: &[u8], at: usize) -> Record
+    requires { ⌜ at + 24 ≤ length (now s) ⌝ }
+    ensures { λ r. ⌜ r ≡ readRecord (part at 24 (now (s .entry))) ⌝ }
+{
+    Record {
+        phase: s[at],
+        position: s[at + 1],
+        island: s[at + 2],
+        seen: s[at + 3],
+        highest: s[at + 4],
+        flag: s[at + 5],
+        proposal: figure_at(s, at + 8),
+        carried: figure_at(s, at + 12),
+        best: figure_at(s, at + 16),
+    }
+}
+
+// Three cells of eight bytes, one after another.
+pub fn put_record(board: &mut [u8], at: usize, r: Record)
+    requires { ⌜ at + 24 ≤ length (now board) ⌝ }
+    ensures { λ _. ⌜ now (board .exit) ≡ splice at (layRecord r) (now (board .entry)) ⌝ }
+{
+    let v = figure_bytes(r.proposal);
+    let x = figure_bytes(r.carried);
+    let y = figure_bytes(r.best);
+    put_cell(
+        board,
+        at,
+        [
+            r.phase,
+            r.position,
+            r.island,
+            r.seen,
+            r.highest,
+            r.flag,
+            0,
+            0,
+        ],
+    );
+    put_cell(
+        board,
+        at + 8,
+        [v[0], v[1], v[2], v[3], x[0], x[1], x[2], x[3]],
+    );
+    put_cell(board, at + 16, [y[0], y[1], y[2], y[3], 0, 0, 0, 0]);
+}

@@ -1,0 +1,45 @@
+// A line of at most 512 bytes, by value, and what is put at its end.
+// Relies on nothing; numbers and statuses rely on it.
+ghost use mathlib.Core.List.{[], _∷_};
+ghost use Prim.Native.Nat.{_+_, _≤_, _<_};
+ghost use lib.ListN.{length};
+ghost use Rattle.shown.specs.Puts.{Holds, Puts};
+
+// The bytes after the first `len` are zero.
+pub struct Line {
+    pub bytes: [u8; 512],
+    pub len: usize,
+}
+
+pub fn empty() -> Line
+    ensures { λ r. ⌜ Holds r [] ⌝ }
+{
+    Line {
+        bytes: [0; 512],
+        len: 0,
+    }
+}
+
+pub fn put_byte(line: Line, byte: u8) -> Line
+    requires { ⌜ line .len < 512 ⌝ }
+    ensures { λ r. ⌜ Puts line (byte ∷ []) r ⌝ }
+{
+    let mut next = line;
+    let at = next.len;
+    next.bytes[at] = byte;
+    next.len = at + 1;
+    next
+}
+
+pub fn put_word(line: Line, word: &[u8]) -> Line
+    requires { ⌜ line .len + length (now word) ≤ 512 ⌝ }
+    ensures { λ r. ⌜ Puts line (now (word .entry)) r ⌝ }
+{
+    let mut next = line;
+    let mut i = 0;
+    while i < word.len() {
+        next = put_byte(next, word[i]);
+        i += 1;
+    }
+    next
+}

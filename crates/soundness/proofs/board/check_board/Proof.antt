@@ -1,0 +1,94 @@
+-- `check_board`: each return is its refusal, where the tests before it passed.
+use borrow.Author.Needs.{needs}
+use native.Mathlib.Omega.{arith}
+use Rattle.model.specs.Bytes.{byte}
+use Rattle.model.specs.Told.{verdict}
+use Rattle.soundness.proofs.Laws.Chains.{no, yes}
+use Rattle.soundness.proofs.Laws.Verdicts.{refused7, refused8-low, refused8-high, refused9-low, refused9-high, refused10, refused11, accepted, product-small, length-is}
+use Rattle.soundness.proofs.board.check_board.Statement.{statement}
+use Rattle.soundness.proofs.board.check_board.Tie as tie
+
+returns : tie.Need-returns
+unfolding verdict
+returns c = refused7 _ (c .if1 .taken)
+
+shared-slice-read-n : tie.Need-shared-slice-read-n
+shared-slice-read-n c = search needs
+
+cast-n : tie.Need-cast-n
+cast-n c = omega (arith, (c .shared-slice-known2 .given) 0)
+
+returns-2 : tie.Need-returns-2
+unfolding verdict
+returns-2 c = refused8-low _ (c .before .before .if1 .left) (c .if2 .taken)
+
+returns-3 : tie.Need-returns-3
+unfolding verdict
+returns-3 c = refused8-high _ (c .before .before .before .if1 .left) (c .if3 .taken)
+
+shared-slice-read-k : tie.Need-shared-slice-read-k
+shared-slice-read-k c = search needs
+
+cast-k : tie.Need-cast-k
+cast-k c = omega (arith, (c .shared-slice-known3 .given) 1)
+
+returns-4 : tie.Need-returns-4
+unfolding verdict
+returns-4 c = refused9-low _ (c .before .before .before .before .before .if1 .left) (c .before .before .before .if2 .left) (c .before .before .if3 .left) (c .if4 .taken)
+
+returns-5 : tie.Need-returns-5
+unfolding verdict
+returns-5 c = refused9-high _ (c .before .before .before .before .before .before .if1 .left) (c .before .before .before .before .if2 .left) (c .before .before .before .if3 .left) (c .if5 .taken)
+
+mul-if6 : tie.Need-mul-if6
+mul-if6 c = search needs
+
+add-if6 : tie.Need-add-if6
+add-if6 c = search needs
+
+mul-if6-2 : tie.Need-mul-if6-2
+mul-if6-2 c = omega (arith, (product-small (byte (c .before .before .before .before .before .before .before .before .args .board .now) 0) (byte (c .before .before .before .before .before .before .before .before .args .board .now) 1) (c .before .before .before .if3 .left) (c .if5 .left)))
+
+mul-if6-3 : tie.Need-mul-if6-3
+mul-if6-3 c = omega (arith, (product-small (byte (c .before .before .before .before .before .before .before .before .args .board .now) 0) (byte (c .before .before .before .before .before .before .before .before .args .board .now) 1) (c .before .before .before .if3 .left) (c .if5 .left)))
+
+add-if6-2 : tie.Need-add-if6-2
+add-if6-2 c = omega (arith, (product-small (byte (c .before .before .before .before .before .before .before .before .args .board .now) 0) (byte (c .before .before .before .before .before .before .before .before .args .board .now) 1) (c .before .before .before .if3 .left) (c .if5 .left)))
+
+returns-6 : tie.Need-returns-6
+unfolding verdict
+returns-6 c = refused10 _ (c .before .before .before .before .before .before .before .if1 .left) (c .before .before .before .before .before .if2 .left) (c .before .before .before .before .if3 .left) (c .before .before .if4 .left) (c .before .if5 .left) (c .if6 .taken)
+
+sound-requires : tie.Need-sound-requires
+sound-requires c κs = (length-is _ _ _ (c .if6 .left), (c .before .before .before .before .before .if2 .left), (c .before .before .before .before .if3 .left), (c .before .before .if4 .left), (c .before .if5 .left))
+
+returns-7 : tie.Need-returns-7
+unfolding verdict
+returns-7 c = refused11 _ (c .before .before .before .before .before .before .before .before .before .if1 .left) (c .before .before .before .before .before .before .before .if2 .left) (c .before .before .before .before .before .before .if3 .left) (c .before .before .before .before .if4 .left) (c .before .before .before .if5 .left) (c .before .before .if6 .left) (no _ _ (c .before .sound .ensures) (c .if7 .taken))
+
+returns-8 : tie.Need-returns-8
+unfolding verdict
+returns-8 c = accepted _ (c .before .before .before .before .before .before .before .before .before .if1 .left) (c .before .before .before .before .before .before .before .if2 .left) (c .before .before .before .before .before .before .if3 .left) (c .before .before .before .before .if4 .left) (c .before .before .before .if5 .left) (c .before .before .if6 .left) (yes _ _ (c .before .sound .ensures) (c .if7 .left))
+
+pub check-board-spec : {M : Type 1} → statement M
+check-board-spec =
+    tie.close
+    (tie.spec
+    returns
+    shared-slice-read-n
+    cast-n
+    returns-2
+    returns-3
+    shared-slice-read-k
+    cast-k
+    returns-4
+    returns-5
+    mul-if6
+    add-if6
+    mul-if6-2
+    mul-if6-3
+    add-if6-2
+    returns-6
+    sound-requires
+    returns-7
+    returns-8)

@@ -1,0 +1,46 @@
+// The records of a board: each one's fields, and its own register.
+// Relies on fields, own and codec's records; the board's test relies on it.
+ghost use mathlib.Core.Path.{_≡_};
+ghost use Prim.Native.Nat.{_+_, _≤_, _<_};
+ghost use lib.ListN.{length};
+ghost use Rattle.model.specs.Bytes.{every};
+ghost use Rattle.model.specs.Layout.{boardLength, recordAt, recordOf};
+ghost use Rattle.model.specs.Sound.{recordSound};
+use crate::fields::fields_sound;
+use crate::own::own_sound;
+use crate::zeros::zero_pair;
+use crate::zeros::zero_word;
+use codec::records::record_at;
+
+pub fn record_sound(s: &[u8], at: usize, n: usize, k: usize, i: usize) -> bool
+    requires { ⌜ (length (now s) ≡ boardLength n k) × (n ≤ 16) × (k ≤ 64) × (i < n) × (at ≡ recordAt n k i) ⌝ }
+    ensures { λ r. ⌜ r ≡ recordSound n k i (now (s .entry)) (recordOf n k i (now (s .entry))) ⌝ }
+{
+    if !zero_pair(s, at + 6) {
+        return false;
+    }
+    if !zero_word(s, at + 20) {
+        return false;
+    }
+    let f = record_at(s, at);
+    if !fields_sound(f, n, k) {
+        return false;
+    }
+    own_sound(s, n, k, i, f)
+}
+
+pub fn records_sound(s: &[u8], n: usize, k: usize) -> bool
+    requires { ⌜ (length (now s) ≡ boardLength n k) × (n ≤ 16) × (k ≤ 64) ⌝ }
+    ensures { λ r. ⌜ r ≡ every n (λ i. recordSound n k i (now (s .entry)) (recordOf n k i (now (s .entry)))) ⌝ }
+{
+    let mut at = 8 + 8 * (n * (1 + 2 * k));
+    let mut i: usize = 0;
+    while i < n {
+        if !record_sound(s, at, n, k, i) {
+            return false;
+        }
+        at += 24;
+        i += 1;
+    }
+    true
+}
