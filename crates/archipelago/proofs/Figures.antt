@@ -1,4 +1,4 @@
--- Figures in range as the machine has them, and the choice of the larger one.
+-- The choice of the larger figure, and the test of equality on bits.
 -- Relies on the definitions of figures; the proofs of the order and of the collects rely on it.
 use mathlib.Core.Path.{_≡_, refl, sym, ap, _∙_, subst}
 use mathlib.Core.Bool.{Bool, true, false}
@@ -11,10 +11,6 @@ use mir.Facts.{toZ-ofZ, yes-eqb}
 use Rattle.model.specs.Figure.{Figure, figures, sameFigure, above}
 use Rattle.model.specs.Listing.{larger}
 use Rattle.model.proofs.Basics.Numbers.{same-is, same-refl}
-
--- a figure in range is the number of its bits
-pub landed : (v : Figure) → mag v < 2 ^ hbits w32 → toZ w32 (ofZ w32 v) ≡ v
-landed v f = toZ-ofZ (record { sfits = f })
 
 pub larger-second : (x y : Figure) → above y x ≡ true → y ≡ larger figures x y
 unfolding larger figures

@@ -14,3 +14,4 @@ pub use proposing::propose;
 pub use running::run;
 pub use showing::show;
 pub use single::step;
+pub use soundness::board::check_board;

@@ -50,10 +50,6 @@ below-at (negsuc n) h e =
     let same : 4294967295 - (4294967296 - suc n) ≡ n = omega (arith, h .sfits) in
     below-from n _ (ap (toZ w32) same ∙ toZ-pos w32 n (omega (arith, h .sfits))) (omega (arith, h .sfits))
 
--- a figure in range is the number of its bits
-pub landed : (v : ℤ) → mag v < 2 ^ hbits w32 → toZ w32 (ofZ w32 v) ≡ v
-landed v f = toZ-ofZ (record { sfits = f })
-
 -- the code tests the number that it reads back from the bits
 sign : (v : ℤ) → SFits w32 v → (t : Bool) → ltZ (toZ w32 (ofZ w32 v)) (pos 0) ≡ t → ltZ v (pos 0) ≡ t
 sign v h t e = ap (λ (z : ℤ). ltZ z (pos 0)) (sym (toZ-ofZ h)) ∙ e

@@ -1,7 +1,7 @@
 -- `write` meets its contract: the figure is stored by its bits, and is the number of those bits.
 use borrow.Author.Needs.{needs}
 use Rattle.archipelago.specs.Advanced.{writing, at}
-use Rattle.archipelago.proofs.Figures.{landed}
+use Rattle.model.proofs.Basics.Numbers.{landed}
 use Rattle.archipelago.proofs.write.Statement.{statement}
 use Rattle.archipelago.proofs.write.Tie as tie
 

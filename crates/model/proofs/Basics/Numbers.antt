@@ -11,7 +11,7 @@ use lib.IntN.{ℤ, pos, negsuc}
 use lib.Signed.{mag}
 use lib.ListN.{length}
 use mir.Syntax.{w32}
-use mir.Val.{toZ, ofZ, SFits, Fits, sel}
+use mir.Val.{toZ, ofZ, hbits, SFits, Fits, sel}
 use mir.Facts.{toZ-ofZ, ofZ-toZ, fits-ofZ}
 use borrow.Author.Tests.{ltb-false}
 use Rattle.model.specs.Bytes.{number, digits}
@@ -82,3 +82,7 @@ pub same-refl : (v : Figure) → T (sameFigure v v)
 unfolding sameFigure
 same-refl (pos a) = eqb-refl a
 same-refl (negsuc a) = eqb-refl a
+
+-- a figure in range is the number of its bits
+pub landed : (v : Figure) → mag v < 2 ^ hbits w32 → toZ w32 (ofZ w32 v) ≡ v
+landed v f = toZ-ofZ (record { sfits = f })

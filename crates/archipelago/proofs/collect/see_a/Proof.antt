@@ -3,7 +3,7 @@ use borrow.Author.Needs.{needs}
 use mathlib.Core.Path.{sym, _∙_}
 use Rattle.model.specs.Figure.{figures, sameFigure}
 use Rattle.model.specs.Listing.{turnA, larger}
-use Rattle.archipelago.proofs.Figures.{landed}
+use Rattle.model.proofs.Basics.Numbers.{landed}
 use Rattle.archipelago.proofs.OneRead.{see-empty, a-first, a-same, a-differs, a-mixed}
 use Rattle.archipelago.proofs.collect.see_a.Statement.{statement}
 use Rattle.archipelago.proofs.collect.see_a.Tie as tie

@@ -4,7 +4,7 @@ use mathlib.Core.Path.{_∙_}
 use mir.Facts.{toZ-ofZ}
 use Rattle.model.specs.Figure.{figures}
 use Rattle.model.specs.Listing.{adopt, larger}
-use Rattle.archipelago.proofs.Figures.{landed}
+use Rattle.model.proofs.Basics.Numbers.{landed}
 use Rattle.archipelago.proofs.ReadB.{adopt-first, adopt-more, adopt-beside, third-stays}
 use Rattle.archipelago.proofs.collect.see_adopt.Statement.{statement}
 use Rattle.archipelago.proofs.collect.see_adopt.Tie as tie

@@ -1,7 +1,7 @@
 -- `collect::see_b` meets its contract: each return is a law of OneRead or ReadB.
 use borrow.Author.Needs.{needs}
 use Rattle.model.specs.Listing.{turnB}
-use Rattle.archipelago.proofs.Figures.{landed}
+use Rattle.model.proofs.Basics.Numbers.{landed}
 use Rattle.archipelago.proofs.OneRead.{see-empty}
 use Rattle.archipelago.proofs.ReadB.{read-adopt, read-commit}
 use Rattle.archipelago.proofs.collect.see_b.Statement.{statement}

@@ -4,7 +4,7 @@ use mathlib.Core.Path.{sym, _∙_}
 use mir.Facts.{toZ-ofZ}
 use Rattle.model.specs.Figure.{sameFigure}
 use Rattle.model.specs.Listing.{commit}
-use Rattle.archipelago.proofs.Figures.{landed}
+use Rattle.model.proofs.Basics.Numbers.{landed}
 use Rattle.archipelago.proofs.ReadB.{commit-first, commit-beside, commit-same, commit-differs, third-stays}
 use Rattle.archipelago.proofs.collect.see_commit.Statement.{statement}
 use Rattle.archipelago.proofs.collect.see_commit.Tie as tie

@@ -3,7 +3,7 @@ use borrow.Author.Needs.{needs}
 use mathlib.Core.Path.{sym, _∙_}
 use Rattle.model.specs.Figure.{figures}
 use Rattle.model.specs.Listing.{turnM, pairAbove}
-use Rattle.archipelago.proofs.Figures.{landed}
+use Rattle.model.proofs.Basics.Numbers.{landed}
 use Rattle.archipelago.proofs.OneRead.{see-empty, m-first, m-above, m-below}
 use Rattle.archipelago.proofs.collect.see_m.Statement.{statement}
 use Rattle.archipelago.proofs.collect.see_m.Tie as tie

@@ -3,7 +3,7 @@ use borrow.Author.Needs.{needs}
 use mathlib.Core.Path.{sym, _∙_}
 use borrow.Author.Tests.{eqb-true, eqb-false}
 use Rattle.model.specs.declared.StepAnswer.the-variants.{Marked}
-use Rattle.archipelago.proofs.Figures.{landed}
+use Rattle.model.proofs.Basics.Numbers.{landed}
 use Rattle.archipelago.proofs.Ends.{begun, committed, not-committed}
 use Rattle.archipelago.proofs.finish.finish_a.Statement.{statement}
 use Rattle.archipelago.proofs.finish.finish_a.Tie as tie

@@ -1,6 +1,6 @@
 -- `finish::finish_b` meets its contract: each return is a law of Ends.
 use borrow.Author.Needs.{needs}
-use Rattle.archipelago.proofs.Figures.{landed}
+use Rattle.model.proofs.Basics.Numbers.{landed}
 use Rattle.archipelago.proofs.Ends.{settled, went-on, last-island}
 use Rattle.archipelago.proofs.finish.finish_b.Statement.{statement}
 use Rattle.archipelago.proofs.finish.finish_b.Tie as tie

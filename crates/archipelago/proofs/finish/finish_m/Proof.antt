@@ -1,7 +1,7 @@
 -- `finish::finish_m` meets its contract: its return is a law of Ends.
 use borrow.Author.Needs.{needs}
 use Rattle.model.specs.declared.StepAnswer.the-variants.{Went}
-use Rattle.archipelago.proofs.Figures.{landed}
+use Rattle.model.proofs.Basics.Numbers.{landed}
 use Rattle.archipelago.proofs.Ends.{begun, went}
 use Rattle.archipelago.proofs.finish.finish_m.Statement.{statement}
 use Rattle.archipelago.proofs.finish.finish_m.Tie as tie

@@ -6,7 +6,7 @@ use native.Mathlib.Omega.{arith}
 use lib.ListN.{length}
 use Rattle.model.specs.Show.{text, textFrom}
 use Rattle.shown.specs.Puts.{Puts}
-use Rattle.shown.proofs.Signs.{landed}
+use Rattle.model.proofs.Basics.Numbers.{landed}
 use Rattle.shown.proofs.Statuses.{idle-text, going-text, decided-text, spent-text, room-as, puts-as}
 use Rattle.shown.proofs.status.put_phase.Statement.{statement}
 use Rattle.shown.proofs.status.put_phase.Tie as tie
