@@ -2,11 +2,9 @@
 -- Relies on the definitions of figures; the proofs of the order and of the collects rely on it.
 use mathlib.Core.Path.{_≡_, refl, sym, ap, _∙_, subst}
 use mathlib.Core.Bool.{Bool, true, false}
-use Prim.Native.Nat.{_<_, _^_}
 use lib.Dec.{T, eqb, eqb→eq}
 use mir.Syntax.{w32}
-use lib.Signed.{mag}
-use mir.Val.{SFits, hbits, toZ, ofZ}
+use mir.Val.{SFits, toZ, ofZ}
 use mir.Facts.{toZ-ofZ, yes-eqb}
 use Rattle.model.specs.Figure.{Figure, figures, sameFigure, above}
 use Rattle.model.specs.Listing.{larger}

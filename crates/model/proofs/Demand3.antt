@@ -1,29 +1,27 @@
 -- Demand 3, whole: for every list of calls from a laid board, agreement, validity and the sequential order.
 -- Relies on the invariant, on what a list leaves on the board, and on stations in turn. The statement is specs/AnyList.antt.
 use mathlib.Core.Path.{_≡_, refl, sym, ap, _∙_, subst}
-use mathlib.Core.Bool.{Bool, true, false, cond, _&&_}
-use mathlib.Core.List.{List, [], _∷_}
+use mathlib.Core.Bool.{true, cond, _&&_}
+use mathlib.Core.List.{List, _∷_}
 use mathlib.Core.Logic.{_⊎_, inl, inr, ⊎-elim}
-use mathlib.Core.Option.{Option, none, some}
+use mathlib.Core.Option.{none, some}
 use Prim.Native.Nat.{ℕ, suc, _+_, _*_, _-_, _≤_, _<_}
 use native.Mathlib.Decide.{ℕ-discrete}
 use native.Mathlib.Nat.{le-refl}
 use native.Mathlib.Omega.{arith}
 use lib.Dec.{ltb, lit<}
-use lib.ListN.{replicate}
 use borrow.Author.Tests.{ltb-true}
-use Rattle.model.specs.Bytes.{byte}
 use Rattle.model.specs.Figure.{Figure}
 use Rattle.model.specs.Listing.{Register, empty, Stage, has-decided, Station, idle, active, Array, inM}
-use Rattle.model.specs.Layout.{freshBoard, readRecord, recordFields, fields, seenNumber, bestIsland, bestFigure, register, readRegister, registerValue, marked-by, registerOf, station, stationOf, recordBytes}
+use Rattle.model.specs.Layout.{freshBoard, register, readRegister, registerValue, marked-by, registerOf, station, stationOf}
 use Rattle.model.specs.Calls.{After, Refusal, shapeRefusal, stations, islands, lay}
-use Rattle.model.specs.AnyList.{Call, called, AllAllowed, Some, Proposes, Steps, Decides, Seat, Among, Once, AsProposed, EachDecides, Ordered, Demand3, AnyList}
+use Rattle.model.specs.AnyList.{Call, AllAllowed, Some, Proposes, Steps, Decides, Seat, Among, Once, AsProposed, EachDecides, Ordered, Demand3, AnyList}
 use Rattle.model.proofs.Basics.Tests.{cond-case, true-T, T-true, and-l, and-r}
 use Rattle.model.proofs.Board.Codec.{Fits, FitsStation, station-bytes}
 use Rattle.model.proofs.Board.Boards.{registerPart}
 use Rattle.model.proofs.Board.Fresh.{fresh-idle, fresh-empty}
 use Rattle.model.proofs.Listing.Collect.{Filled}
-use Rattle.model.proofs.Calls.Refusals.{some-none, Shape, shape-of, Board, call-case}
+use Rattle.model.proofs.Calls.Refusals.{some-none, Shape, shape-of, call-case}
 use Rattle.model.proofs.Calls.CallsKeep.{fresh-board, station-of-fits}
 use Rattle.model.proofs.Agreement.State.{State, initial}
 use Rattle.model.proofs.Agreement.Calls.{Inv, inv-initial}
@@ -36,7 +34,7 @@ use Rattle.model.proofs.Bridge.History.{absurd-idle, proposal-of, steps
 use Rattle.model.proofs.Bridge.Events.{Stepped, Decided, steps-end, decides-end}
 use Rattle.model.proofs.Bridge.Until.{Ready}
 use Rattle.model.proofs.Bridge.InTurn.{Proper, AllProper, pairs, first-decides}
-use Rattle.model.proofs.Bridge.Seats.{proposalIn, seat, seats, TakesPart, among-is, is-among, seats-once, seats-distinct, first-apart, all-seats}
+use Rattle.model.proofs.Bridge.Seats.{proposalIn, seat, seats, among-is, is-among, seats-once, seats-distinct, first-apart, all-seats}
 
 -- ---- a fresh board stands for the initial state
 

@@ -11,7 +11,7 @@ use mir.Val.{SFits}
 use Rattle.model.specs.Figure.{Figure}
 use Rattle.model.specs.Layout.{freshBoard}
 use Rattle.model.specs.Listing.{Answer, wrote, read, went, marked, adopted, decided, spent, refused, accepted}
-use Rattle.model.specs.Calls.{After, Refusal, lay, propose, step}
+use Rattle.model.specs.Calls.{After, lay, propose, step}
 
 -- "It holds proposals and single steps, with any station numbers and figures .. refused ones, and refused layings, may
 -- stand anywhere."

@@ -1,6 +1,6 @@
 -- Lists of bytes: numbers of several bytes, tests that compute, and the one way in which bytes change.
 -- Relies on the kit's lists; every other definition relies on it.
-use mathlib.Core.Bool.{Bool, true, false, not, _&&_, _||_}
+use mathlib.Core.Bool.{Bool, true, not, _&&_, _||_}
 use mathlib.Core.List.{List, [], _∷_, _++_}
 use Prim.Native.Nat.{ℕ, zero, suc, _+_, _*_, _/_, _%_}
 use lib.Dec.{eqb}

@@ -1,10 +1,10 @@
 -- The calls: for each, the refusals in 01's order, then the answer and the bytes afterwards, from what is lent and given.
 -- Relies on all definitions but the shown line; every public contract is an equation with one of these.
-use mathlib.Core.Bool.{Bool, true, false, _&&_, cond}
+use mathlib.Core.Bool.{Bool, true, false, _&&_}
 use mathlib.Core.List.{List, [], _∷_}
 use mathlib.Core.Option.{Option, none, some}
 use Prim.Native.Nat.{ℕ, _+_, _-_}
-use lib.Dec.{eqb, leb, ltb}
+use lib.Dec.{eqb, leb}
 use lib.ListN.{length}
 use Rattle.model.specs.Bytes.{byte, splice}
 use Rattle.model.specs.Figure.{Figure, figures}

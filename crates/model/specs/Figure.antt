@@ -1,6 +1,6 @@
 -- Figures: signed 32-bit whole numbers, as two's complement bytes, and their order.
 -- Relies on Bytes; the layout, soundness and the calls rely on it.
-use mathlib.Core.Bool.{Bool, true, false}
+use mathlib.Core.Bool.{Bool, false}
 use mathlib.Core.List.{List}
 use Prim.Native.Nat.{ℕ}
 use lib.Dec.{eqb}

@@ -7,9 +7,9 @@ use lib.Dec.{eqb, leb, ltb}
 use Rattle.model.specs.Bytes.{byte, part, zeros, every, implies}
 use Rattle.model.specs.Figure.{Figure, figures, sameFigure}
 use Rattle.model.specs.Listing.{Turn, turnM, turnA, turnB, Seen, nothing, seen, Register, empty, filled}
-use Rattle.model.specs.Listing.{Stage, writing, reading, has-decided, is-spent, Station, idle, active}
-use Rattle.model.specs.Listing.{Array, inM, inA, inB, Order, array, entry, pairAbove}
-use Rattle.model.specs.Layout.{registerAt, registerOf, recordOf, ofPhase, station}
+use Rattle.model.specs.Listing.{writing, reading, has-decided, is-spent, Station, idle, active}
+use Rattle.model.specs.Listing.{Array, inM, inA, inB, array, entry, pairAbove}
+use Rattle.model.specs.Layout.{registerAt, registerOf, recordOf, station}
 use Rattle.model.specs.Listing.{flagNumber}
 
 -- "Head, 8 bytes: n, K, six zeros."

@@ -1,17 +1,16 @@
 -- The starred runs of 01 as one table: a row is what the definitions give and what 01 says they give.
 -- Relies on the calls and the shown line; proofs/Starred.antt proves the one statement `Starred`.
-use mathlib.Core.Bool.{Bool, true, false}
+use mathlib.Core.Bool.{Bool, true}
 use mathlib.Core.List.{List, [], _∷_, _++_}
-use mathlib.Core.Option.{Option, none, some}
+use mathlib.Core.Option.{none, some}
 use mathlib.Core.Path.{_≡_}
 use Prim.Native.Nat.{ℕ, zero, suc}
-use Prim.Native.String.{String}
 use lib.IntN.{pos, negsuc}
 use lib.ListN.{length, replicate}
 use Rattle.model.specs.Figure.{Figure, above}
-use Rattle.model.specs.Layout.{boardLength, freshBoard}
+use Rattle.model.specs.Layout.{boardLength}
 use Rattle.model.specs.Calls.{After, Refusal, RunAnswer, ran, notRun, lay, propose, run}
-use Rattle.model.specs.Show.{Shown, show, shownLine, text}
+use Rattle.model.specs.Show.{shownLine, text}
 
 -- A run sheet's ending: S and T of its `steps`, and the line that `(show)` then gives; an answer to a laying; a comparison.
 pub data Outcome : Type 0 where

@@ -1,9 +1,9 @@
 -- An accepted step: where it reads and writes lies on the board, and what is put back is what the model's access puts.
 -- Relies on Touching, on the promise of `advance` and on the model's access; the proof of `access` relies on it.
 use mathlib.Core.Path.{_≡_, refl, sym, ap, _∙_, subst}
-use mathlib.Core.Bool.{Bool, true, false}
+use mathlib.Core.Bool.{true, false}
 use mathlib.Core.List.{List}
-use mathlib.Core.Option.{Option, none, some}
+use mathlib.Core.Option.{Option}
 use Prim.Native.Nat.{ℕ, zero, suc, _+_, _≤_, _<_}
 use native.Mathlib.Omega.{arith}
 use lib.ListN.{length}
@@ -11,10 +11,9 @@ use Rattle.model.specs.declared.Record.{Record}
 use Rattle.model.specs.declared.Register as Fields
 use Rattle.model.specs.Bytes.{part, splice, digits}
 use Rattle.model.specs.Figure.{Figure, figures, figureBytes}
-use Rattle.model.specs.Listing.{Turn, turnM, turnA, turnB, Register, Stage, writing, reading, has-decided, is-spent, active, Array, array, Move, move, placeArray, placeColumn}
-use Rattle.model.specs.Layout.{boardLength, registerAt, recordAt, readRegister, layRegister, registerValue, register, layRecord, recordFields, recordBytes, recordValue, writingOf, readingOf, ofPhase, registerOf}
-use Rattle.model.specs.Calls.{After, putStation, putRegister, access}
-use Rattle.model.specs.Told.{told}
+use Rattle.model.specs.Listing.{Turn, turnM, turnA, turnB, Register, Stage, writing, reading, has-decided, is-spent, active, move, placeArray, placeColumn}
+use Rattle.model.specs.Layout.{registerAt, recordAt, readRegister, layRegister, registerValue, register, layRecord, recordBytes, recordValue, writingOf, readingOf, ofPhase, registerOf}
+use Rattle.model.specs.Calls.{putStation, access}
 use Rattle.model.proofs.Basics.Tests.{clash}
 use Rattle.model.proofs.Basics.Splices.{length-splice}
 use Rattle.model.proofs.Board.Places.{InBoard, register-fits, record-inside}

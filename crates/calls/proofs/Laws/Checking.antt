@@ -1,6 +1,6 @@
 -- A call that tests the board first: the board's own refusals, and a board that passed.
 -- Relies on the model's calls; the proofs of the public calls rely on it.
-use mathlib.Core.Path.{_≡_, refl, sym, ap, _∙_}
+use mathlib.Core.Path.{_≡_, sym, ap, _∙_}
 use mathlib.Core.List.{List}
 use mathlib.Core.Option.{none, some}
 use Prim.Native.Nat.{ℕ}
@@ -8,9 +8,8 @@ use Rattle.model.specs.declared.Verdict.{Verdict}
 use Rattle.model.specs.declared.Verdict.the-variants.{Accepted, Refused}
 use Rattle.model.specs.declared.StepAnswer.{StepAnswer}
 use Rattle.model.specs.declared.StepAnswer.the-variants as answers
-use Rattle.model.specs.Figure.{Figure}
-use Rattle.model.specs.Listing.{Answer, refused}
-use Rattle.model.specs.Calls.{After, Refusal, boardRefusal, unlessRefused, stepOn, step}
+use Rattle.model.specs.Listing.{refused}
+use Rattle.model.specs.Calls.{Refusal, boardRefusal, unlessRefused, stepOn, step}
 use Rattle.model.specs.Told.{told, verdict}
 use Rattle.calls.specs.Stepped.{StepsOn}
 

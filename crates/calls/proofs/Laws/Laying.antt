@@ -1,14 +1,14 @@
 -- Laying: the answer and bytes at each return.
 -- Relies on the model's refusals; the proof of `lay` relies on it.
 use mathlib.Core.Path.{_≡_, refl, sym, ap, _∙_}
-use mathlib.Core.List.{List, [], _∷_}
+use mathlib.Core.List.{List, _∷_}
 use mathlib.Core.Option.{none, some}
-use Prim.Native.Nat.{ℕ, zero, suc, _+_, _*_, _-_, _≤_}
+use Prim.Native.Nat.{ℕ, suc, _-_, _≤_}
 use native.Mathlib.Omega.{arith}
 use lib.ListN.{length, replicate, set, length-replicate}
 use Rattle.model.specs.declared.Verdict.the-variants.{Accepted, Refused}
 use Rattle.model.specs.Layout.{boardLength, freshBoard}
-use Rattle.model.specs.Calls.{After, Refusal, shapeRefusal, unlessRefused, lay}
+use Rattle.model.specs.Calls.{Refusal, shapeRefusal, unlessRefused, lay}
 use Rattle.model.specs.Told.{verdict}
 use Rattle.model.proofs.Calls.Refusals.{Shape, shape-passes}
 

@@ -4,18 +4,17 @@ use mathlib.Core.Path.{_≡_, refl, sym, ap, _∙_}
 use mathlib.Core.List.{List}
 use mathlib.Core.Option.{none, some}
 use Prim.Native.Nat.{ℕ, zero, suc, _-_, _≤_, _<_}
-use native.Mathlib.Omega.{arith}
 use lib.ListN.{getD}
 use Rattle.model.specs.declared.Record.{Record}
 use Rattle.model.specs.declared.Verdict.{Verdict}
 use Rattle.model.specs.declared.Verdict.the-variants.{Accepted, Refused}
 use Rattle.model.specs.Bytes.{part, splice}
 use Rattle.model.specs.Figure.{Figure}
-use Rattle.model.specs.Listing.{Station, idle, active, proposed}
+use Rattle.model.specs.Listing.{proposed}
 use Rattle.model.specs.Layout.{recordAt, readRecord, layRecord, recordFields, recordBytes, writingOf, readingOf, ofPhase, recordValue, station, recordOf, stationOf}
 use Rattle.model.specs.Calls.{After, Refusal, stations, islands, boardRefusal, stationRefusal, stationAt, unlessRefused, putStation, notIdle, propose}
 use Rattle.model.specs.Told.{verdict}
-use Rattle.model.proofs.Calls.Refusals.{Board, board-of, board-passes, board-first, OnBoard, station-passes, station-12-low, station-12-high}
+use Rattle.model.proofs.Calls.Refusals.{board-of, board-passes, board-first, OnBoard, station-passes, station-12-low, station-12-high}
 use Rattle.calls.proofs.Laws.Checking.{turned}
 
 abbrev done : (i : ℕ) (v : Figure) (b : List ℕ) → After Refusal

@@ -2,9 +2,9 @@
 -- Relies on the model's runs; the proofs of `run_on` and `run` rely on it.
 use mathlib.Core.Path.{_≡_, refl, sym, ap, _∙_, subst}
 use mathlib.Core.Bool.{Bool, true, false, cond}
-use mathlib.Core.List.{List, [], _∷_, _++_}
+use mathlib.Core.List.{List, [], _∷_}
 use mathlib.Core.Option.{none, some}
-use Prim.Native.Nat.{ℕ, zero, suc, _+_, _-_, _≤_, _<_}
+use Prim.Native.Nat.{ℕ, _+_, _-_, _≤_, _<_}
 use native.Mathlib.Numerals.{add-one}
 use native.Mathlib.Omega.{arith}
 use lib.Dec.{leb, le→leb}
@@ -15,12 +15,11 @@ use Rattle.model.specs.declared.Verdict.{Verdict}
 use Rattle.model.specs.declared.Verdict.the-variants as verdicts
 use Rattle.model.specs.declared.StepAnswer.{StepAnswer}
 use Rattle.model.specs.declared.RunVerdict.the-variants.{Ran, Refused}
-use Rattle.model.specs.Figure.{Figure}
-use Rattle.model.specs.Listing.{Answer, accepted}
+use Rattle.model.specs.Listing.{accepted}
 use Rattle.model.specs.Calls as calls
-use Rattle.model.specs.Calls.{After, Refusal, RunAnswer, ran, notRun, boardRefusal, unless, unlessRefused, stepOn, step, tally, ranOne, ranFrom, notYet, finished, run}
+use Rattle.model.specs.Calls.{After, Refusal, RunAnswer, ran, notRun, boardRefusal, unless, unlessRefused, stepOn, step, ranOne, ranFrom, notYet, finished, run}
 use Rattle.model.specs.Told.{told, verdict, runTold}
-use Rattle.model.proofs.Calls.Refusals.{Board, board-of, board-passes, unless-fails, unless-passes}
+use Rattle.model.proofs.Calls.Refusals.{board-of, board-passes, unless-fails, unless-passes}
 use Rattle.model.proofs.Calls.CallsKeep.{stepOn-keeps}
 use Rattle.model.proofs.Calls.Runs.{tally-taken, ran-append, ran-both, run-on}
 use Rattle.calls.specs.Stepped.{StepsOn, RunsOn, counts}

@@ -3,13 +3,12 @@
 use mathlib.Core.Path.{_≡_, refl, sym, ap, _∙_, subst}
 use mathlib.Core.List.{List, [], _++_, append-assoc, append-nil}
 use mathlib.Core.Option.{none, some}
-use Prim.Native.Nat.{ℕ, zero, suc, _+_, _-_, _≤_, _<_}
+use Prim.Native.Nat.{ℕ, _+_, _≤_, _<_}
 use native.Mathlib.Numerals.{add-one}
 use native.Mathlib.Omega.{arith}
 use lib.Dec.{leb, le→leb}
 use lib.ListN.{length, getD, replicate, length-append}
 use Rattle.model.specs.declared.Record.{Record}
-use Rattle.model.specs.declared.ShownLine.{ShownLine}
 use Rattle.model.specs.declared.Verdict.{Verdict}
 use Rattle.model.specs.declared.Verdict.the-variants.{Accepted, Refused}
 use Rattle.model.specs.Bytes.{part}
@@ -17,7 +16,7 @@ use Rattle.model.specs.Figure.{Figure}
 use Rattle.model.specs.Listing.{Station}
 use Rattle.model.specs.Layout.{recordAt, readRecord, recordValue, station, recordOf, stationOf}
 use Rattle.model.specs.Calls.{Refusal, stations, islands, boardRefusal, unless}
-use Rattle.model.specs.Show.{Shown, text, textFrom, statuses, shownLine, shownAs, show}
+use Rattle.model.specs.Show.{text, textFrom, statuses, shownLine, shownAs, show}
 use Rattle.model.specs.Told.{verdict, shownTold}
 use Rattle.model.proofs.Board.Values.{sound-station}
 use Rattle.model.proofs.Calls.Refusals.{Board, board-of, board-passes, board-first, unless-passes}

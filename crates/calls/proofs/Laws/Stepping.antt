@@ -1,10 +1,9 @@
 -- A step on a sound board: what the head says, each refusal, and the accepted step.
 -- Relies on the model's refusals and soundness; the proof of `step_on` relies on it.
 use mathlib.Core.Path.{_≡_, refl, sym, ap, _∙_, subst}
-use mathlib.Core.Bool.{Bool, true, false, _&&_}
 use mathlib.Core.List.{List, [], _∷_}
-use mathlib.Core.Option.{Option, none, some}
-use Prim.Native.Nat.{ℕ, zero, suc, _+_, _-_, _≤_, _<_}
+use mathlib.Core.Option.{none, some}
+use Prim.Native.Nat.{ℕ, suc, _+_, _-_, _≤_, _<_}
 use native.Mathlib.Omega.{arith}
 use lib.Dec.{T}
 use lib.ListN.{length, getD}
@@ -13,22 +12,22 @@ use Rattle.model.specs.declared.StepAnswer.{StepAnswer}
 use Rattle.model.specs.declared.StepAnswer.the-variants.{Refused}
 use Rattle.model.specs.Bytes.{byte, part}
 use Rattle.model.specs.Figure.{Figure}
-use Rattle.model.specs.Listing.{Stage, Station, idle, active, has-decided, is-spent, Answer, refused}
+use Rattle.model.specs.Listing.{Station, idle, active, has-decided, is-spent, Answer, refused}
 use Rattle.model.specs.Layout.{boardLength, recordAt, readRecord, ofPhase, recordValue, station, recordOf, stationOf}
-use Rattle.model.specs.Sound.{fieldsSound, ownWritten, ownPassed, recordSound}
-use Rattle.model.specs.Calls.{After, Refusal, stations, islands, boardRefusal, stationRefusal, stationAt, unlessRefused, notGoing, access, stepped, stepOn}
+use Rattle.model.specs.Sound.{fieldsSound, recordSound}
+use Rattle.model.specs.Calls.{After, Refusal, stations, islands, boardRefusal, stationRefusal, stationAt, unlessRefused, notGoing, stepped, stepOn}
 use Rattle.model.specs.Told.{told}
 use Rattle.model.proofs.Basics.Tests.{and-l, and-r}
 use Rattle.model.proofs.Basics.Numbers.{Bytes}
 use Rattle.model.proofs.Basics.Splices.{length-part}
 use Rattle.model.proofs.Basics.Parts.{part-Bytes}
 use Rattle.model.proofs.Board.Places.{record-inside}
-use Rattle.model.proofs.Calls.Refusals.{Board, board-of, OnBoard, station-passes, station-12-low, station-12-high}
+use Rattle.model.proofs.Calls.Refusals.{board-of, OnBoard, station-passes, station-12-low, station-12-high}
 use Rattle.model.proofs.Calls.Accepted.{stepOn-access}
 use Rattle.archipelago.specs.Advanced.{Ready}
 use Rattle.archipelago.proofs.Ready.{ready}
 use Rattle.calls.specs.Stepped.{Accesses, OnSize, StepsOn}
-use Rattle.calls.proofs.Laws.Accessing.{Standing, standing}
+use Rattle.calls.proofs.Laws.Accessing.{standing}
 
 -- what the head of a sound board says, in the bytes' own terms
 pub record Head (b : List ℕ) : Type 0 where

@@ -1,10 +1,10 @@
 -- The one register that a going station touches next, by its phase.
 -- Relies on the layout and the listing; the proof of `touched` relies on it, and so does that of `access`.
-use mathlib.Core.Path.{_≡_, refl, sym, ap, _∙_, subst}
+use mathlib.Core.Path.{_≡_, sym, ap, _∙_}
 use Prim.Native.Nat.{ℕ}
 use Rattle.model.specs.declared.Record.{Record}
 use Rattle.model.specs.Figure.{Figure}
-use Rattle.model.specs.Listing.{Stage, Station, active, placeArray, placeColumn}
+use Rattle.model.specs.Listing.{Stage, active, placeArray, placeColumn}
 use Rattle.model.specs.Layout.{registerAt, ofPhase, recordValue}
 use Rattle.calls.specs.Stepped.{Touches}
 

@@ -6,7 +6,7 @@ use mathlib.Core.Option.{Option, none, some}
 use Prim.Native.Nat.{ℕ, _+_, _≤_, _<_}
 use lib.Dec.{ltb}
 use borrow.Author.Tests.{ltb-false}
-use Rattle.model.specs.Listing.{Order, Register, Turn, turnM, turnA, turnB, Grade, first, second, third, Seen, nothing, seen, Stage, writing, reading, has-decided, is-spent, Station, idle, active, Move, Array, inM, array, entry, placeArray, placeColumn, proposed, stay, onward, finish, ended, see, move}
+use Rattle.model.specs.Listing.{Order, Register, Turn, Seen, nothing, Stage, writing, reading, has-decided, is-spent, Station, idle, active, Move, Array, inM, array, entry, placeArray, placeColumn, proposed, stay, ended, see, move}
 use Rattle.model.proofs.Listing.Going.{Going}
 use Rattle.model.proofs.Listing.Written.{ended-writes}
 use Rattle.model.proofs.Basics.Tests.{cond-case}

@@ -6,7 +6,7 @@ use mathlib.Core.Option.{Option, none, some}
 use Prim.Native.Nat.{ℕ}
 use lib.Dec.{eqb}
 use borrow.Author.Tests.{eqb-true, eq-eqb, ne-eqb}
-use Rattle.model.specs.Listing.{Order, Register, empty, filled, Station, idle, active, Stage, Array, inM, inA, inB, Move, placeArray, placeColumn, proposed, move}
+use Rattle.model.specs.Listing.{Order, Register, empty, Station, idle, active, Stage, Array, inM, inA, inB, Move, placeArray, placeColumn, proposed, move}
 use Rattle.model.proofs.Basics.Tests.{clash}
 
 pub record State (F : Type 0) : Type 0 where

@@ -6,7 +6,7 @@ use mathlib.Core.Option.{Option, none, some}
 use Prim.Native.Nat.{ℕ, _+_}
 use lib.Dec.{ltb, eqb}
 use borrow.Author.Tests.{eq-eqb}
-use Rattle.model.specs.Listing.{Order, adopt, Register, filled, Turn, turnM, turnA, turnB, Stage, writing, reading, has-decided, is-spent, Station, active, Move, Array, inM, entry, array, placeArray, placeColumn, stay, see, move}
+use Rattle.model.specs.Listing.{Order, adopt, Register, filled, turnM, turnA, turnB, Stage, writing, reading, has-decided, is-spent, Station, active, Move, Array, inM, entry, array, placeArray, placeColumn, stay, see, move}
 use Rattle.model.proofs.Listing.Going.{Going}
 use Rattle.model.proofs.Listing.Written.{ended-writes}
 use Rattle.model.proofs.Basics.Tests.{cond-case}

@@ -3,15 +3,15 @@
 use mathlib.Core.Path.{_≡_, refl, sym, ap, _∙_, subst}
 use mathlib.Core.Bool.{Bool, true, false}
 use mathlib.Core.List.{List, [], _∷_}
-use Prim.Native.Nat.{ℕ, zero, suc, _+_, _*_, _^_, _-_, _/_, _%_, _≤_, _<_}
-use native.Mathlib.Nat.{div-add-mod', mul-comm, add-comm, pow-suc, div-lt-iff-lt-mul, mod-lt, add-mul-mod-self-left, mod-eq-of-lt, add-mul-div-left, div-eq-of-lt, zero-add}
+use Prim.Native.Nat.{ℕ, zero, suc, _+_, _*_, _^_, _-_, _/_, _%_, _<_}
+use native.Mathlib.Nat.{div-add-mod', pow-suc, div-lt-iff-lt-mul, add-mul-mod-self-left, mod-eq-of-lt, add-mul-div-left, div-eq-of-lt, zero-add}
 use native.Mathlib.Omega.{arith}
-use lib.Dec.{T, eqb, ltb, eqb→eq, eqb-refl, lit<, lit≤, ltb→lt}
-use lib.IntN.{ℤ, pos, negsuc}
+use lib.Dec.{T, ltb, eqb→eq, eqb-refl, lit<, ltb→lt}
+use lib.IntN.{pos, negsuc}
 use lib.Signed.{mag}
 use lib.ListN.{length}
 use mir.Syntax.{w32}
-use mir.Val.{toZ, ofZ, hbits, SFits, Fits, sel}
+use mir.Val.{toZ, ofZ, hbits, SFits, sel}
 use mir.Facts.{toZ-ofZ, ofZ-toZ, fits-ofZ}
 use borrow.Author.Tests.{ltb-false}
 use Rattle.model.specs.Bytes.{number, digits}

@@ -1,11 +1,11 @@
 -- A list of bytes by its parts: a part byte by byte, parts joined, and parts of bytes.
 -- Relies on Bytes and Splices; the form of sound registers and records relies on it, and so do the code's proofs.
-use mathlib.Core.Path.{_≡_, refl, sym, ap, _∙_, subst}
+use mathlib.Core.Path.{_≡_, refl, sym, ap, _∙_}
 use mathlib.Core.List.{List, [], _∷_, _++_}
 use Prim.Native.Nat.{ℕ, zero, suc, _+_, _≤_, _<_}
 use native.Mathlib.Omega.{arith}
 use lib.Dec.{T}
-use lib.ListN.{length, replicate, take, drop, getD, getD-replicate}
+use lib.ListN.{length, replicate, take, drop, getD-replicate}
 use lib.Seq.{take-all, take-add, drop-drop, ext-getD}
 use Rattle.model.specs.Bytes.{byte, part, zeros}
 use Rattle.model.proofs.Basics.Tests.{zeros-is}

@@ -1,12 +1,11 @@
 -- A part of a list of bytes after a splice: what was spliced in, or what stood there before.
 -- Relies on Bytes; the laws on boards rely on it.
-use mathlib.Core.Path.{_≡_, refl, sym, ap, _∙_, subst}
-use mathlib.Core.List.{List, [], _∷_, _++_}
-use Prim.Native.Nat.{ℕ, zero, suc, _+_, _-_, _≤_, _<_}
-use native.Mathlib.Nat.{le-refl, add-comm, add-assoc, min-eq-left, le-trans, le-add-right}
+use mathlib.Core.Path.{_≡_, sym, ap, _∙_, subst}
+use mathlib.Core.List.{List, _++_}
+use Prim.Native.Nat.{ℕ, _+_, _-_, _≤_, _<_}
 use native.Mathlib.Omega.{arith}
 use lib.ListN.{length, take, drop, getD, length-append, length-take, length-drop, List·getD-append}
-use lib.Seq.{take-append-le, drop-append-le, take-at, drop-at, drop-append-add, take-append-seam, drop-drop, take-take, length-take-le, ext-getD, getD-take, getD-drop, getD-append-add}
+use lib.Seq.{length-take-le, ext-getD, getD-take, getD-drop, getD-append-add}
 use Rattle.model.specs.Bytes.{byte, part, splice}
 
 pub length-part : (at len : ℕ) (b : List ℕ) → at + len ≤ length b → length (part at len b) ≡ len

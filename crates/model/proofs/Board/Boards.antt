@@ -1,20 +1,20 @@
 -- A board after a station's record or one register was put in: what each part of it then holds.
 -- Relies on Splices, Places and Codec; that the calls keep a board sound relies on it, and the bridge to values.
-use mathlib.Core.Path.{_≡_, refl, sym, ap, _∙_, subst}
-use mathlib.Core.Logic.{_⊎_, inl, inr, ⊎-elim}
+use mathlib.Core.Path.{_≡_, sym, ap, _∙_}
+use mathlib.Core.Logic.{_⊎_, ⊎-elim}
 use mathlib.Core.List.{List}
-use mathlib.Core.Option.{Option, none, some}
+use mathlib.Core.Option.{some}
 use Prim.Native.Nat.{ℕ, _+_, _≤_, _<_}
 use native.Mathlib.Omega.{arith}
 use lib.ListN.{length}
 use Rattle.model.specs.Bytes.{byte, part, splice}
 use Rattle.model.specs.Figure.{Figure}
 use Rattle.model.specs.Listing.{Register, Station, Array}
-use Rattle.model.specs.Layout.{boardLength, registerAt, recordAt, registerBytes, recordBytes, recordOf, registerOf, register}
+use Rattle.model.specs.Layout.{boardLength, registerAt, recordAt, registerBytes, recordBytes, recordOf}
 use Rattle.model.specs.Calls.{putStation, putRegister}
 use Rattle.model.proofs.Basics.Splices.{length-splice, byte-before, part-same, part-before, part-after}
 use Rattle.model.proofs.Board.Places.{InBoard, head-first, register-inside, record-inside, register-fits, head-before-records, records-apart, registers-apart}
-use Rattle.model.proofs.Board.Codec.{length-register, length-record, register-bytes, FitsRegister}
+use Rattle.model.proofs.Board.Codec.{length-register, length-record}
 
 -- the register of array a and station index j, as bytes
 unfoldable pub registerPart : (n : ℕ) → Array → (j : ℕ) → List ℕ → List ℕ

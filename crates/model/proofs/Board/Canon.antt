@@ -1,19 +1,18 @@
 -- Encoding after decoding is the identity on sound registers and records, bytes being bytes.
 -- Relies on Numbers, Splices and soundness's clauses; it says that a sound part has one meaning and one form.
 use mathlib.Core.Path.{_≡_, refl, sym, ap, _∙_, subst}
-use mathlib.Core.Bool.{Bool, true, false, cond, _&&_, _||_}
-use mathlib.Core.Logic.{_⊎_, inl, inr, ⊎-elim}
+use mathlib.Core.Bool.{Bool, false, cond, _&&_, _||_}
+use mathlib.Core.Logic.{⊎-elim}
 use mathlib.Core.List.{List, [], _∷_, _++_}
-use Prim.Native.Nat.{ℕ, zero, suc, _+_, _≤_, _<_}
-use native.Mathlib.Nat.{add-suc, add-zero}
+use Prim.Native.Nat.{ℕ, zero, suc, _+_, _≤_}
 use native.Mathlib.Omega.{arith}
 use lib.Dec.{T, eqb, leb, ltb, leb→le, eqb→eq, eqb·suc-zero, lit≤}
 use lib.IntN.{pos}
-use lib.ListN.{length, replicate, take, drop, getD}
-use Rattle.model.specs.Bytes.{byte, part, number, digits, zeros, implies}
+use lib.ListN.{length, replicate}
+use Rattle.model.specs.Bytes.{byte, part, digits, zeros, implies}
 use Rattle.model.specs.Figure.{Figure, figure, figureBytes}
-use Rattle.model.specs.Listing.{Flag, adopt, commit, Turn, turnM, turnA, turnB, Grade, first, second, third, Register, empty, filled}
-use Rattle.model.specs.Listing.{Seen, nothing, seen, Stage, writing, reading, has-decided, is-spent, Station, idle, active}
+use Rattle.model.specs.Listing.{Flag, adopt, commit, filled}
+use Rattle.model.specs.Listing.{Seen, nothing}
 use Rattle.model.specs.Listing.{flagOf, flagNumber}
 use Rattle.model.specs.Layout.{layRegister, readRegister, registerFields, registerValue, registerBytes, marked-by, register, gradeNumber, seenNumber, bestIsland, bestFigure, seenOf, writePhase, flagByte}
 use Rattle.model.specs.Layout.{readRecord, layRecord, fields, recordFields, recordValue, recordBytes, writingOf, readingOf, ofPhase, station}

@@ -1,18 +1,14 @@
 -- Registers and records as bytes: their lengths, and decoding after encoding is the identity on 32-bit figures.
 -- Relies on the layout and on Numbers; the laws on a board after a write rely on it.
-use mathlib.Core.Path.{_≡_, refl, ap, _∙_}
-use Prim.Native.Nat.{ℕ}
-use lib.IntN.{pos}
-use lib.Dec.{lit<}
+use mathlib.Core.Path.{_≡_, refl, ap}
 use lib.ListN.{length}
 use mir.Syntax.{w32}
 use mir.Val.{SFits}
-use Rattle.model.specs.Bytes.{number, digits, part}
+use Rattle.model.specs.Bytes.{digits, part}
 use Rattle.model.specs.Figure.{Figure, figure, figureBytes}
-use Rattle.model.specs.Listing.{Flag, adopt, commit, Turn, turnM, turnA, turnB, Grade, first, second, third, Register, empty, filled}
+use Rattle.model.specs.Listing.{adopt, commit, turnM, turnA, turnB, first, second, third, Register, empty, filled}
 use Rattle.model.specs.Listing.{Seen, nothing, seen, Stage, writing, reading, has-decided, is-spent, Station, idle, active}
 use Rattle.model.specs.Listing.{flagOf, flagNumber}
-use Rattle.model.specs.declared.Record.{Record}
 use Rattle.model.specs.Layout.{layRegister, readRegister, registerFields, registerValue, registerBytes, marked-by, register, gradeNumber, seenNumber, bestIsland, bestFigure, seenOf, writePhase, flagByte}
 use Rattle.model.specs.Layout.{layRecord, readRecord, fields, recordFields, recordValue, recordBytes, writingOf, readingOf, ofPhase, station}
 use Rattle.model.proofs.Basics.Numbers.{figure-fits, figure-bytes}

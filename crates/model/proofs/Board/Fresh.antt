@@ -1,18 +1,17 @@
 -- A fresh board is sound: every part of it past n and K is zero.
 -- Relies on Splices, Places, Keeps; the laws of laying rely on it.
-use mathlib.Core.Path.{_≡_, refl, sym, ap, _∙_, subst, subst⁻¹}
-use mathlib.Core.List.{List, [], _∷_}
+use mathlib.Core.Path.{_≡_, sym, _∙_, subst⁻¹}
+use mathlib.Core.List.{List}
 use Prim.Native.Nat.{ℕ, zero, suc, _+_, _*_, _-_, _≤_, _<_}
-use native.Mathlib.Nat.{mul-le-mul-left}
 use native.Mathlib.Omega.{arith}
-use lib.Dec.{T, lit≤, lit<}
-use lib.ListN.{length, replicate, length-replicate, getD, getD-replicate}
-use lib.Seq.{ext-getD, drop-drop}
+use lib.Dec.{T, lit≤}
+use lib.ListN.{length, replicate, length-replicate, getD-replicate}
+use lib.Seq.{ext-getD}
 use Rattle.model.specs.Bytes.{byte, part, zeros, digits}
-use Rattle.model.specs.Figure.{Figure, figureBytes}
-use Rattle.model.specs.Listing.{Station, idle, Array, inM, inA, inB}
+use Rattle.model.specs.Figure.{figureBytes}
+use Rattle.model.specs.Listing.{idle, Array}
 use Rattle.model.specs.Layout.{boardLength, registerAt, recordAt, freshBoard, fields, recordFields, layRecord, seenNumber, bestIsland, bestFigure, recordBytes, recordOf}
-use Rattle.model.specs.Sound.{headSound, registerSound, marksIn, islandsIn, ownWritten, ownPassed, recordSound}
+use Rattle.model.specs.Sound.{headSound, registerSound, ownWritten, ownPassed, recordSound}
 use Rattle.model.proofs.Basics.Tests.{zeros-replicate}
 use Rattle.model.proofs.Basics.Splices.{length-part, byte-part}
 use Rattle.model.proofs.Board.Places.{InBoard, register-fits, record-inside, head-first, head-before-records}

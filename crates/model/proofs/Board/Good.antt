@@ -1,22 +1,22 @@
 -- What the tests of a record's fields say of the value that it decodes to, and that such a value passes them when encoded.
 -- Relies on soundness's clauses and the codec; that the calls keep a board sound relies on it.
-use mathlib.Core.Path.{_≡_, refl, sym, ap, _∙_, subst}
-use mathlib.Core.Bool.{Bool, true, false, cond, _&&_, _||_, not}
+use mathlib.Core.Path.{_≡_, refl}
+use mathlib.Core.Bool.{true, _||_}
 use mathlib.Core.List.{List}
 use Prim.Native.Nat.{ℕ, zero, suc, _≤_, _<_}
 use native.Mathlib.Omega.{arith}
-use lib.Dec.{T, eqb, leb, ltb, leb→le, ltb→lt, eqb→eq}
+use lib.Dec.{T, eqb, leb→le, ltb→lt, eqb→eq}
 use borrow.Author.Tests.{lt-ltb}
 use Rattle.model.specs.Bytes.{byte, part, zeros, implies, digits}
-use Rattle.model.specs.Figure.{Figure, figure, figureBytes}
-use Rattle.model.specs.Listing.{Flag, adopt, commit, Turn, turnM, turnA, turnB, Grade, first, second, third}
+use Rattle.model.specs.Figure.{Figure, figureBytes}
+use Rattle.model.specs.Listing.{Flag, adopt, commit, Turn, turnM, turnA, turnB, first, second, third}
 use Rattle.model.specs.Listing.{Seen, nothing, seen, Stage, writing, reading, has-decided, is-spent, Station, idle, active}
 use Rattle.model.specs.Listing.{flagNumber}
 use Rattle.model.specs.Layout.{gradeNumber, seenNumber, bestIsland, bestFigure, seenOf, writePhase, flagByte, layRecord, fields, recordFields, recordBytes}
 use Rattle.model.specs.Layout.{readRecord, writingOf, readingOf, ofPhase}
 use Rattle.model.specs.Sound.{collecting, phaseKnown, positionInside, islandInside, bestInside, flagKnown, restZero, idleZero, collectZero}
 use Rattle.model.specs.Sound.{bestIslandZero, bestZero, seenKnown, fieldsSound}
-use Rattle.model.proofs.Basics.Tests.{and-l, and-r, true-T}
+use Rattle.model.proofs.Basics.Tests.{and-l, and-r}
 
 -- what the seen fields may be in a turn: the grades of 01's table, and a best island below K in m and 0 elsewhere
 unfoldable pub GoodSeen : (K : ℕ) → Turn → Seen Figure → Type 0

@@ -1,18 +1,17 @@
 -- What changes on a board keeps it sound: one register of a station, then that station's record.
 -- Relies on Boards and Values; that the calls keep a board sound relies on it.
 use mathlib.Core.Path.{_≡_, refl, sym, ap, subst, subst⁻¹}
-use mathlib.Core.Bool.{Bool, true, false, _&&_}
+use mathlib.Core.Bool.{_&&_}
 use mathlib.Core.List.{List}
-use mathlib.Core.Option.{Option, none, some}
-use Prim.Native.Nat.{ℕ, _+_, _≤_, _<_}
+use mathlib.Core.Option.{some}
+use Prim.Native.Nat.{ℕ, _<_}
 use native.Mathlib.Decide.{ℕ-discrete}
 use native.Mathlib.Omega.{arith}
 use lib.Dec.{T, lit≤}
-use lib.ListN.{length}
-use Rattle.model.specs.Bytes.{byte, part, zeros}
+use Rattle.model.specs.Bytes.{byte, zeros}
 use Rattle.model.specs.Figure.{Figure}
-use Rattle.model.specs.Listing.{Turn, Register, Stage, writing, reading, has-decided, is-spent, Station, idle, active, Array, array, entry}
-use Rattle.model.specs.Layout.{boardLength, registerBytes, recordBytes, register, readRecord, recordValue, station, registerOf, recordOf, stationOf}
+use Rattle.model.specs.Listing.{Register, writing, reading, has-decided, is-spent, Station, idle, active, Array, array, entry}
+use Rattle.model.specs.Layout.{registerBytes, recordBytes, register, readRecord, recordValue, station, registerOf, recordOf}
 use Rattle.model.specs.Sound.{headSound, ownWritten, ownPassed, sameRegister, fieldsSound, recordSound}
 use Rattle.model.specs.Calls.{putStation, putRegister}
 use Rattle.model.proofs.Basics.Tests.{and-l, and-r, and-i, true-T}
@@ -22,7 +21,7 @@ use Rattle.model.proofs.Board.Boards.{registerPart, station-length, sta
 use Rattle.model.proofs.Board.Boards.{register-length, register-before, register-same, register-other, register-record}
 use Rattle.model.proofs.Board.Good.{GoodStation, GoodStage, fields-good, good-fields}
 use Rattle.model.proofs.Board.SoundFacts.{registerTest, SoundBoard, SoundBut}
-use Rattle.model.proofs.Board.Values.{array-inside, SoundStation, sound-station}
+use Rattle.model.proofs.Board.Values.{array-inside, SoundStation}
 
 pub sound-but : (i n K : ℕ) (b : List ℕ) → SoundBoard n K b → SoundBut i n K b
 sound-but i n K b s = record { len = s .len; head = s .head; registers = s .registers; others = λ j h f. s .records j h }

@@ -1,25 +1,23 @@
 -- The values on a sound board: each station good, each register readable, each station's own register as it wrote it.
 -- Relies on SoundFacts, Good and OneRead; that the calls keep a board sound relies on it.
-use mathlib.Core.Path.{_≡_, refl, sym, ap, _∙_, subst}
-use mathlib.Core.Bool.{Bool, true, false, cond, _&&_}
+use mathlib.Core.Path.{_≡_, refl, sym, subst}
+use mathlib.Core.Bool.{Bool, cond, _&&_}
 use mathlib.Core.List.{List}
-use Prim.Native.Nat.{ℕ, zero, suc, _+_, _≤_, _<_}
-use native.Mathlib.Omega.{arith}
+use Prim.Native.Nat.{ℕ, zero, suc, _<_}
 use lib.Dec.{T, eqb, leb, ltb, ltb→lt, lt→ltb, eqb→eq, eqb-refl, eqb·suc-zero}
-use borrow.Author.Tests.{lt-ltb}
-use Rattle.model.specs.Bytes.{byte, part, zeros, implies, digits}
-use Rattle.model.specs.Figure.{Figure, figure, figureBytes, figures, sameFigure}
+use Rattle.model.specs.Bytes.{byte, part, zeros}
+use Rattle.model.specs.Figure.{Figure, figure, figures, sameFigure}
 use Rattle.model.specs.Listing.{Flag, adopt, commit, Turn, turnM, turnA, turnB, Register, empty, filled, Seen, nothing, seen, Stage, writing, reading, has-decided, is-spent}
-use Rattle.model.specs.Listing.{Station, idle, active, Array, array, entry, see, placeArray, placeColumn}
+use Rattle.model.specs.Listing.{Station, active, array, entry, placeArray, placeColumn}
 use Rattle.model.specs.Listing.{flagNumber}
 use Rattle.model.specs.Layout.{registerAt, marked-by, readRegister, registerValue, register, seenOf, readRecord, recordValue, writingOf, readingOf, ofPhase, station, registerOf, recordOf, stationOf}
 use Rattle.model.specs.Sound.{registerSound, marksIn, islandsIn, sameRegister, ownWritten, ownSeen, ownPassed, fieldsSound, recordSound}
 use Rattle.model.proofs.Basics.Tests.{and-l, and-r, and-i, implies-use}
 use Rattle.model.proofs.Basics.Numbers.{same-is, same-refl}
 use Rattle.model.proofs.Board.Places.{InBoard}
-use Rattle.model.proofs.Board.Codec.{Fits, FitsRegister, FitsSeen, FitsStage, FitsStation, figure-Fits}
+use Rattle.model.proofs.Board.Codec.{FitsRegister, FitsSeen, FitsStage, FitsStation, figure-Fits}
 use Rattle.model.proofs.Board.Boards.{registerPart}
-use Rattle.model.proofs.Board.Good.{GoodStation, GoodStage, GoodSeen, fields-good}
+use Rattle.model.proofs.Board.Good.{GoodStation, GoodStage, fields-good}
 use Rattle.model.proofs.Listing.Collect.{Something, Filled, entry-fills, last-read-sees}
 use Rattle.model.proofs.Listing.OneRead.{GoodRead}
 use Rattle.model.proofs.Listing.Moves.{Readable}

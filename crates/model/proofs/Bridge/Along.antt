@@ -3,25 +3,23 @@
 use mathlib.Core.Path.{_≡_, refl, sym, ap, _∙_, subst}
 use mathlib.Core.Bool.{Bool, true, false, cond, _&&_}
 use mathlib.Core.List.{List}
-use mathlib.Core.Logic.{_⊎_, inl, inr}
 use mathlib.Core.Option.{Option, none, some}
 use Prim.Native.Nat.{ℕ, suc, _-_, _≤_, _<_}
 use native.Mathlib.Decide.{ℕ-discrete}
 use native.Mathlib.Omega.{arith}
-use lib.Dec.{eqb}
 use borrow.Author.Tests.{ne-eqb}
 use Rattle.model.specs.Figure.{Figure, figures}
-use Rattle.model.specs.Listing.{Register, Stage, has-decided, Station, idle, active, Array, inM, Answer, decided, accepted, Move, proposed, placeArray}
+use Rattle.model.specs.Listing.{Register, Stage, idle, active, Array, inM, accepted, proposed, placeArray}
 use Rattle.model.specs.Layout.{stationOf}
 use Rattle.model.specs.Calls.{propose, step}
-use Rattle.model.specs.AnyList.{Call, proposing, stepping, called, Allowed, Proposes, Steps, Decides}
+use Rattle.model.specs.AnyList.{Call, proposing, stepping, called, Proposes, Steps}
 use Rattle.model.proofs.Listing.Collect.{Filled}
 use Rattle.model.proofs.Listing.Going.{Going}
-use Rattle.model.proofs.Agreement.State.{State, put, put-same, put-other, sameArray, putWritten, proposing as proposingIn, moveOf, moving}
-use Rattle.model.proofs.Agreement.Steps.{filled-stays, stepped-fills}
+use Rattle.model.proofs.Agreement.State.{State, put-same, put-other, sameArray, putWritten, proposing as proposingIn, moveOf, moving}
+use Rattle.model.proofs.Agreement.Steps.{stepped-fills}
 use Rattle.model.proofs.Bridge.View.{view, view-station}
 use Rattle.model.proofs.Bridge.Single.{ProposeSim, StepSim}
-use Rattle.model.proofs.Bridge.Lists.{Held, Change, same, takes, moves, changed}
+use Rattle.model.proofs.Bridge.Lists.{Held, Change, same, takes, moves}
 
 -- the register of m of station index j, in the state
 unfoldable pub mOf : (n K j : ℕ) → List ℕ → Register Figure

@@ -1,16 +1,15 @@
 -- A station that took a step in a list, or made a decision, at the board that the list leaves.
 -- Relies on History and Single; demand 3 relies on it.
-use mathlib.Core.Path.{_≡_, refl, sym, ap, _∙_, subst, subst₂}
-use mathlib.Core.Bool.{Bool, true, false}
+use mathlib.Core.Path.{_≡_, sym, ap, _∙_, subst, subst₂}
+use mathlib.Core.Bool.{true}
 use mathlib.Core.List.{List, [], _∷_}
-use mathlib.Core.Logic.{_⊎_, inl, inr, ⊎-elim}
-use Prim.Native.Nat.{ℕ, suc, _-_, _≤_, _<_}
-use native.Mathlib.Omega.{arith}
+use mathlib.Core.Logic.{inl, inr}
+use Prim.Native.Nat.{ℕ, _-_, _≤_, _<_}
 use Rattle.model.specs.Figure.{Figure, figures}
-use Rattle.model.specs.Listing.{Stage, has-decided, Station, active, Answer, decided, accepted, Move, inM, placeArray, placeColumn}
+use Rattle.model.specs.Listing.{Stage, has-decided, active, Answer, decided, accepted, inM, placeArray, placeColumn}
 use Rattle.model.specs.Layout.{stationOf}
-use Rattle.model.specs.Calls.{After, step}
-use Rattle.model.specs.AnyList.{Call, stepping, called, AllAllowed, Some, Steps, Decides}
+use Rattle.model.specs.Calls.{step}
+use Rattle.model.specs.AnyList.{Call, called, AllAllowed, Some, Steps, Decides}
 use Rattle.model.proofs.Listing.Collect.{Filled}
 use Rattle.model.proofs.Listing.Tells.{Tells, Told, move-tells}
 use Rattle.model.proofs.Agreement.State.{State, put-same, moveOf, moving}

@@ -1,22 +1,18 @@
 -- What a list's answers say of a station, read off the board that the list leaves, and back.
 -- Relies on Along and Tells; demand 3 relies on it.
-use mathlib.Core.Path.{_≡_, refl, sym, ap, _∙_, subst}
-use mathlib.Core.Bool.{Bool, true, false}
+use mathlib.Core.Path.{_≡_, sym, ap, _∙_, subst}
 use mathlib.Core.List.{List, [], _∷_}
 use mathlib.Core.Logic.{_⊎_, inl, inr, ⊎-elim}
-use Prim.Native.Nat.{ℕ, suc, _-_, _≤_, _<_}
+use Prim.Native.Nat.{ℕ, suc, _<_}
 use native.Mathlib.Omega.{arith}
 use Rattle.model.specs.Figure.{Figure, figures}
-use Rattle.model.specs.Listing.{Register, empty, Stage, writing, reading, has-decided, is-spent, Station, idle, active, Answer, decided, accepted, Move, move, proposed, placeArray, placeColumn}
+use Rattle.model.specs.Listing.{Stage, has-decided, Station, idle, active, proposed}
 use Rattle.model.specs.Layout.{stationOf}
-use Rattle.model.specs.Calls.{step}
-use Rattle.model.specs.AnyList.{Call, stepping, called, Allowed, AllAllowed, Some, Proposes, Steps, Decides}
+use Rattle.model.specs.AnyList.{Call, called, AllAllowed, Some, Proposes, Steps}
 use Rattle.model.proofs.Listing.Collect.{Filled}
 use Rattle.model.proofs.Listing.Going.{Going}
-use Rattle.model.proofs.Listing.Tells.{Tells, Told, move-tells}
-use Rattle.model.proofs.Agreement.State.{State, moveOf}
+use Rattle.model.proofs.Agreement.State.{moveOf}
 use Rattle.model.proofs.Bridge.View.{view}
-use Rattle.model.proofs.Bridge.Single.{StepSim, step-sim}
 use Rattle.model.proofs.Bridge.Lists.{Held, changed, held-along, after}
 use Rattle.model.proofs.Bridge.Along.{mOf, Along, stays, starts, goes, along}
 

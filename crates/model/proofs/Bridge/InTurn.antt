@@ -1,25 +1,24 @@
 -- Stations in turn on bytes, each from the board that the one before left: all decide the figure of the first.
 -- Relies on Until and the theorem of one turn; the order that demand 3 asks for relies on it.
 use mathlib.Core.Path.{_≡_, refl, sym, ap, _∙_, subst, subst₂}
-use mathlib.Core.Bool.{Bool, true, false}
+use mathlib.Core.Bool.{true}
 use mathlib.Core.List.{List, [], _∷_}
-use mathlib.Core.Option.{none, some}
 use Prim.Native.Nat.{ℕ, _+_, _*_, _-_, _≤_, _<_}
 use native.Mathlib.Omega.{arith}
 use Rattle.model.specs.Figure.{Figure, figures, sameFigure}
-use Rattle.model.specs.Listing.{Register, empty, Station, idle, Answer, decided}
-use Rattle.model.specs.Layout.{freshBoard, stationOf}
-use Rattle.model.specs.Calls.{After, propose}
-use Rattle.model.specs.AnyList.{Seat, until, turn, EachDecides}
+use Rattle.model.specs.Listing.{idle, decided}
+use Rattle.model.specs.Layout.{stationOf}
+use Rattle.model.specs.Calls.{propose}
+use Rattle.model.specs.AnyList.{Seat, turn, EachDecides}
 use Rattle.model.proofs.Basics.Tests.{T-true, true-T}
 use Rattle.model.proofs.Basics.Numbers.{same-is, same-refl}
 use Rattle.model.proofs.Board.Codec.{Fits}
-use Rattle.model.proofs.Agreement.State.{State, initial, proposing}
-use Rattle.model.proofs.Sequential.Turns.{Ended, stepUntil}
+use Rattle.model.proofs.Agreement.State.{State, initial}
+use Rattle.model.proofs.Sequential.Turns.{stepUntil}
 use Rattle.model.proofs.Sequential.Turns as values
 use Rattle.model.proofs.Sequential.Between.{Between}
-use Rattle.model.proofs.Sequential.OneTurn.{Fresh, Decides, first-turn, next-turn}
-use Rattle.model.proofs.Sequential.Sequential.{NotAmong, Distinct, AllFresh, initial-fresh, still-fresh}
+use Rattle.model.proofs.Sequential.OneTurn.{Decides, first-turn, next-turn}
+use Rattle.model.proofs.Sequential.Sequential.{Distinct, AllFresh, initial-fresh, still-fresh}
 use Rattle.model.proofs.Bridge.View.{view, view-station}
 use Rattle.model.proofs.Bridge.Single.{ProposeSim, propose-sim}
 use Rattle.model.proofs.Bridge.Until.{Ready, Ends, propose-ready, proposes, until-sim}

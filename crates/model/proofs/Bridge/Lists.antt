@@ -4,29 +4,22 @@
 use mathlib.Core.Path.{_≡_, refl, sym, ap, _∙_, subst, subst₂}
 use mathlib.Core.Bool.{Bool, true, false}
 use mathlib.Core.List.{List, [], _∷_}
-use mathlib.Core.Logic.{_⊎_, inl, inr, ⊎-elim}
-use mathlib.Core.Option.{Option, none, some}
-use Prim.Native.Nat.{ℕ, suc, _-_, _<_, _≤_}
-use native.Mathlib.Decide.{ℕ-discrete}
-use native.Mathlib.Omega.{arith}
+use mathlib.Core.Logic.{_⊎_, inl, inr}
+use mathlib.Core.Option.{none, some}
+use Prim.Native.Nat.{ℕ, _-_, _<_}
 use lib.Dec.{lit<}
 use Rattle.model.specs.Bytes.{byte}
 use Rattle.model.specs.Figure.{Figure, figures, sameFigure}
-use Rattle.model.specs.Listing.{Register, Stage, writing, reading, has-decided, is-spent, Station, idle, active, Array, inM, Answer, decided, refused, accepted, Move}
-use Rattle.model.specs.Layout.{stationOf, registerOf}
-use Rattle.model.specs.Calls.{After, Refusal, stations, islands, lay, propose, step}
-use Rattle.model.specs.AnyList.{Call, laying, proposing, stepping, called, Allowed, AllAllowed, Some, Proposes, Steps, Decides}
-use Rattle.model.proofs.Basics.Tests.{clash, true-T}
+use Rattle.model.specs.Listing.{accepted}
+use Rattle.model.specs.Calls.{stations, islands, propose, step}
+use Rattle.model.specs.AnyList.{Call, laying, proposing, stepping, called, Allowed, AllAllowed}
+use Rattle.model.proofs.Basics.Tests.{true-T}
 use Rattle.model.proofs.Basics.Numbers.{same-is}
 use Rattle.model.proofs.Board.Codec.{Fits}
-use Rattle.model.proofs.Listing.Collect.{Filled}
-use Rattle.model.proofs.Listing.Going.{Going}
 use Rattle.model.proofs.Calls.CallsKeep.{propose-keeps, step-keeps, propose-head, step-head}
-use Rattle.model.proofs.Calls.Refusals.{Board, OnBoard, index-inside, refusal-case}
+use Rattle.model.proofs.Calls.Refusals.{Board, refusal-case}
 use Rattle.model.proofs.Calls.Refused.{lay-refused, propose-refused, step-refused}
-use Rattle.model.proofs.Agreement.State.{State, put, put-same, put-other, moveOf, moving}
 use Rattle.model.proofs.Agreement.Calls.{Inv, inv-propose, inv-move}
-use Rattle.model.proofs.Agreement.Steps.{filled-stays, stepped-fills}
 use Rattle.model.proofs.Bridge.View.{view, view-station}
 use Rattle.model.proofs.Bridge.Single.{ProposeSim, propose-sim, StepSim, step-sim}
 

@@ -1,10 +1,10 @@
 -- A run stands in a list of calls as its single steps, so that demand 3 covers it.
 -- Relies on Runs; a run and a sheet's line of steps stand in demand 3 by it.
-use mathlib.Core.Path.{_≡_, refl, _∙_}
+use mathlib.Core.Path.{_≡_, refl}
 use mathlib.Core.List.{List, [], _∷_, map}
 use Prim.Native.Nat.{ℕ}
-use Rattle.model.specs.Calls.{After, Ran, finished, ranFrom, ranOne, notYet, run, step, unlessRefused, notRun, RunAnswer, ran}
-use Rattle.model.specs.AnyList.{Call, stepping, called}
+use Rattle.model.specs.Calls.{After, Ran, finished, ranFrom, ranOne, notYet, run, step, notRun, RunAnswer, ran}
+use Rattle.model.specs.AnyList.{stepping, called}
 use Rattle.model.proofs.Calls.Refusals.{call-case}
 use Rattle.model.proofs.Bridge.Lists.{after}
 use native.Mathlib.Omega.{arith}

@@ -1,17 +1,17 @@
 -- The order that demand 3 asks for: first a given station, then every other station whose register of m is filled.
 -- Relies on the state that a board stands for; demand 3 relies on it.
-use mathlib.Core.Path.{_≡_, refl, sym, ap, _∙_, subst}
+use mathlib.Core.Path.{_≡_, sym, ap, subst}
 use mathlib.Core.Bool.{Bool, true, false, cond, not, _&&_}
 use mathlib.Core.List.{List, [], _∷_}
-use mathlib.Core.Logic.{_⊎_, inl, inr, ⊎-elim}
+use mathlib.Core.Logic.{inl, inr, ⊎-elim}
 use Prim.Native.Nat.{ℕ, zero, suc, _-_, _≤_, _<_}
 use native.Mathlib.Nat.{eq-or-lt-of-le, le-of-suc-le-suc}
 use native.Mathlib.Omega.{arith}
-use lib.Dec.{T, T-not, not-T, eqb}
+use lib.Dec.{T, eqb}
 use lib.IntN.{pos}
-use borrow.Author.Tests.{eqb-true, eqb-false, ne-eqb}
+use borrow.Author.Tests.{eqb-false, ne-eqb}
 use Rattle.model.specs.Figure.{Figure}
-use Rattle.model.specs.Listing.{Register, empty, filled, Stage, Station, idle, active}
+use Rattle.model.specs.Listing.{Register, empty, filled, Station, idle, active}
 use Rattle.model.specs.Layout.{stationOf}
 use Rattle.model.specs.AnyList.{Seat, Among, Once}
 use Rattle.model.proofs.Basics.Tests.{T-true, T-false, true-T, and-l, and-r, and-i, cond-case}

@@ -1,23 +1,22 @@
 -- One call on bytes is one call on the state that the bytes stand for, with the same answer.
 -- Relies on View, Access and the calls' laws; lists of calls and the sequential run rely on it.
 use mathlib.Core.Path.{_≡_, refl, sym, ap, _∙_, subst}
-use mathlib.Core.Bool.{Bool, true, false}
+use mathlib.Core.Bool.{true}
 use mathlib.Core.List.{List}
 use mathlib.Core.Option.{Option, none, some}
 use Prim.Native.Nat.{ℕ, _-_, _≤_, _<_}
-use lib.ListN.{length}
 use Rattle.model.specs.Figure.{Figure, figures}
-use Rattle.model.specs.Listing.{Turn, Register, Seen, nothing, Stage, writing, reading, has-decided, is-spent, Station, idle, active, Array, array, entry}
+use Rattle.model.specs.Listing.{Turn, Register, Seen, nothing, Stage, writing, reading, has-decided, is-spent, Station, idle, active, array, entry}
 use Rattle.model.specs.Listing.{Answer, refused, accepted, Move, move, placeArray, placeColumn, proposed}
-use Rattle.model.specs.Layout.{boardLength, registerOf, recordOf, stationOf}
-use Rattle.model.specs.Calls.{After, Refusal, stations, islands, boardRefusal, stationRefusal, stationAt, unlessRefused, putStation, putRegister, notIdle, propose, notGoing, access, stepped, stepOn, step}
+use Rattle.model.specs.Layout.{registerOf, stationOf}
+use Rattle.model.specs.Calls.{After, Refusal, stations, islands, stationRefusal, stationAt, notIdle, propose, notGoing, access, stepped, stepOn, step}
 use Rattle.model.proofs.Basics.Tests.{clash}
 use Rattle.model.proofs.Board.Places.{InBoard}
 use Rattle.model.proofs.Board.Codec.{Fits, FitsSeen, FitsStage, FitsStation}
 use Rattle.model.proofs.Board.Boards.{register-length}
-use Rattle.model.proofs.Board.Good.{GoodSeen, GoodStage, GoodStation}
+use Rattle.model.proofs.Board.Good.{GoodStage, GoodStation}
 use Rattle.model.proofs.Board.SoundFacts.{SoundBoard}
-use Rattle.model.proofs.Board.Values.{array-inside, station-Fits, SoundStation, sound-station, readable}
+use Rattle.model.proofs.Board.Values.{array-inside, SoundStation, sound-station, readable}
 use Rattle.model.proofs.Listing.Moves.{move-fits}
 use Rattle.model.proofs.Listing.Written.{read-writes}
 use Rattle.model.proofs.Calls.Access.{write-bytes, read-bytes}
@@ -28,7 +27,7 @@ use Rattle.model.proofs.Calls.Refusals.{some-none, Board, board-of, OnB
 use Rattle.model.proofs.Calls.Accepted.{stepOn-access}
 use Rattle.model.proofs.Calls.Refused.{access-accepts}
 use Rattle.model.proofs.Agreement.State.{State, put, putWritten, proposing, moveOf, moving}
-use Rattle.model.proofs.Bridge.View.{view, view-station, view-register, view-put-station, view-put-register}
+use Rattle.model.proofs.Bridge.View.{view, view-register, view-put-station, view-put-register}
 
 module _ (n K : ℕ) (b : List ℕ) (q : SoundBoard n K b) (i : ℕ) (own : i < n) (v : Figure) where
   -- the move over the state's register is the move over the board's

@@ -10,16 +10,16 @@ use lib.Dec.{lit<}
 use Rattle.model.specs.Figure.{Figure, figures}
 use Rattle.model.specs.Listing.{Stage, writing, reading, has-decided, is-spent, Station, idle, active, Answer, wrote, read, went, marked, adopted, decided, spent, refused, accepted, move, stay, proposed}
 use Rattle.model.specs.Layout.{stationOf}
-use Rattle.model.specs.Calls.{After, Refusal, stations, islands, boardRefusal, stationRefusal, stationAt, unlessRefused, putStation, notIdle, propose, step}
+use Rattle.model.specs.Calls.{After, Refusal, stations, islands, stationAt, unlessRefused, putStation, notIdle, propose, step}
 use Rattle.model.specs.AnyList.{ends, until}
 use Rattle.model.proofs.Board.Codec.{Fits}
 use Rattle.model.proofs.Listing.Going.{Going}
 use Rattle.model.proofs.Calls.CallsKeep.{propose-keeps, propose-head, step-keeps, step-head}
 use Rattle.model.proofs.Calls.Refusals.{Board, board-passes, OnBoard, station-passes}
-use Rattle.model.proofs.Agreement.State.{State, proposing, moveOf, moving}
+use Rattle.model.proofs.Agreement.State.{State, moveOf, moving}
 use Rattle.model.proofs.Sequential.Turns.{Ended, goOn, stepOnce, stepUntil}
 use Rattle.model.proofs.Bridge.View.{view, view-station}
-use Rattle.model.proofs.Bridge.Single.{ProposeSim, propose-sim, StepSim, step-sim, going-steps}
+use Rattle.model.proofs.Bridge.Single.{StepSim, step-sim, going-steps}
 use Rattle.model.proofs.Bridge.History.{same-proposal, same-stage}
 
 -- a sound board of n and K

@@ -3,20 +3,20 @@
 use mathlib.Core.Path.{_≡_, refl, sym, ap, _∙_, subst}
 use mathlib.Core.Bool.{Bool, true, false, cond, _&&_}
 use mathlib.Core.List.{List}
-use mathlib.Core.Option.{Option, none, some}
+use mathlib.Core.Option.{some}
 use Prim.Native.Nat.{ℕ, _<_}
 use lib.Dec.{ltb, eqb}
 use lib.ListN.{length}
-use borrow.Author.Tests.{lt-ltb, ltb-true, eq-eqb, ne-eqb, eqb-true, eqb-false}
+use borrow.Author.Tests.{lt-ltb, ltb-true, eq-eqb, eqb-true, eqb-false}
 use Rattle.model.specs.Figure.{Figure}
 use Rattle.model.specs.Listing.{Register, empty, Station, idle, Array, inM, inA, inB}
-use Rattle.model.specs.Layout.{boardLength, register, registerBytes, recordBytes, station, registerOf, recordOf, stationOf}
+use Rattle.model.specs.Layout.{boardLength, register, station, registerOf, stationOf}
 use Rattle.model.specs.Calls.{putStation, putRegister}
 use Rattle.model.proofs.Basics.Tests.{and-l, and-r, and-i, true-T, T-true, clash}
 use Rattle.model.proofs.Board.Places.{InBoard}
 use Rattle.model.proofs.Board.Codec.{FitsRegister, FitsStation, register-bytes, station-bytes}
 use Rattle.model.proofs.Board.Boards.{registerPart, station-same, station-other, station-register, register-same, register-other, register-record}
-use Rattle.model.proofs.Agreement.State.{State, put, put-same, put-other, sameArray, array-is, array-self, putWritten}
+use Rattle.model.proofs.Agreement.State.{State, put, sameArray, array-is, array-self, putWritten}
 
 -- an array of a board with K islands, as a test
 unfoldable pub inside : (K : ℕ) → Array → Bool

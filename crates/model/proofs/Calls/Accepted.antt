@@ -6,7 +6,7 @@ use mathlib.Core.Option.{none}
 use Prim.Native.Nat.{ℕ, _-_}
 use Rattle.model.specs.Figure.{Figure}
 use Rattle.model.specs.Listing.{Stage, writing, reading, has-decided, is-spent, Station, active, refused}
-use Rattle.model.specs.Calls.{Refusal, stations, islands, stationRefusal, stationAt, unlessRefused, notGoing, access, stepped, stepOn}
+use Rattle.model.specs.Calls.{Refusal, stations, islands, stationAt, unlessRefused, notGoing, access, stepped, stepOn}
 use Rattle.model.proofs.Listing.Going.{Going}
 use Rattle.model.proofs.Calls.Refusals.{OnBoard, station-passes}
 

@@ -2,10 +2,10 @@
 -- Relies on Written; whatever is shown of the bytes after a step relies on it.
 use mathlib.Core.Path.{_≡_, refl, ap}
 use mathlib.Core.List.{List}
-use mathlib.Core.Option.{Option, none, some}
+use mathlib.Core.Option.{Option, some}
 use Prim.Native.Nat.{ℕ}
 use Rattle.model.specs.Figure.{Figure, figures}
-use Rattle.model.specs.Listing.{Turn, Register, Seen, nothing, writing, reading, active, array, entry, Move, move, placeArray, placeColumn}
+use Rattle.model.specs.Listing.{Turn, Register, Seen, nothing, writing, reading, active, array, entry, move, placeArray, placeColumn}
 use Rattle.model.specs.Layout.{registerOf}
 use Rattle.model.specs.Calls.{putStation, putRegister, access}
 use Rattle.model.proofs.Listing.Written.{read-writes}

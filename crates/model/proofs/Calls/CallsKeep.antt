@@ -2,20 +2,19 @@
 -- Relies on Fresh, Keeps, StepKeeps and Refusals; the laws of runs and lists of calls rely on it.
 use mathlib.Core.Path.{_≡_, refl, sym, ap, _∙_, subst, subst₂}
 use mathlib.Core.List.{List}
-use mathlib.Core.Option.{Option, none, some}
-use Prim.Native.Nat.{ℕ, _+_, _-_, _≤_, _<_}
+use mathlib.Core.Option.{none, some}
+use Prim.Native.Nat.{ℕ, _-_, _<_}
 use native.Mathlib.Omega.{arith}
 use lib.Dec.{lit<}
 use lib.ListN.{length}
 use Rattle.model.specs.Bytes.{byte}
-use Rattle.model.specs.Figure.{Figure, figures}
-use Rattle.model.specs.Listing.{Turn, Register, Seen, Stage, writing, reading, has-decided, is-spent, Station, idle, active, Array, array, entry}
-use Rattle.model.specs.Listing.{Answer, refused, Move, move, placeArray, placeColumn, proposed}
-use Rattle.model.specs.Layout.{boardLength, freshBoard, station, recordOf, registerOf, stationOf}
+use Rattle.model.specs.Figure.{Figure}
+use Rattle.model.specs.Listing.{Stage, writing, reading, has-decided, is-spent, Station, idle, active, array, entry}
+use Rattle.model.specs.Listing.{Answer, refused, proposed}
+use Rattle.model.specs.Layout.{boardLength, freshBoard, recordOf, stationOf}
 use Rattle.model.specs.Sound.{ownWritten, ownPassed}
-use Rattle.model.specs.Calls.{After, Refusal, shapeRefusal, stations, islands, boardRefusal, stationRefusal, stationAt, unlessRefused, lay, putStation, putRegister}
+use Rattle.model.specs.Calls.{After, Refusal, shapeRefusal, stations, islands, boardRefusal, stationRefusal, stationAt, lay, putStation}
 use Rattle.model.specs.Calls.{notIdle, propose, notGoing, access, stepped, stepOn, step}
-use Rattle.model.proofs.Board.Places.{InBoard}
 use Rattle.model.proofs.Board.Codec.{Fits, FitsStation, FitsStage}
 use Rattle.model.proofs.Board.Boards.{station-head, register-head, register-length}
 use Rattle.model.proofs.Board.Good.{GoodStation, GoodStage}
@@ -26,7 +25,7 @@ use Rattle.model.proofs.Board.Keeps.{sound-but, station-keeps}
 use Rattle.model.proofs.Listing.Going.{Going}
 use Rattle.model.proofs.Calls.StepKeeps.{access-keeps}
 use Rattle.model.proofs.Board.Fresh.{length-fresh, fresh-sound}
-use Rattle.model.proofs.Calls.Refusals.{some-none, Shape, shape-of, Board, board-of, OnBoard, station-of, index-inside, call-case, step-on}
+use Rattle.model.proofs.Calls.Refusals.{some-none, Shape, shape-of, Board, board-of, station-of, index-inside, call-case, step-on}
 
 -- A sound board with the head as it was passes 7 to 11 again.
 board-again : (b d : List ℕ) → Board b → byte d 0 ≡ byte b 0 → byte d 1 ≡ byte b 1 → SoundBoard (stations b) (islands b) d → Board d

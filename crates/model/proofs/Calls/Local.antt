@@ -1,7 +1,7 @@
 -- Locality: on sound boards a step's answer and the bytes it alters follow from n, K, the station's own record and, where
 -- it reads, the one register that it reads. No other station's record is touched.
 -- Relies on Access, Boards, Values and Refusals.
-use mathlib.Core.Path.{_≡_, refl, sym, ap, _∙_, subst}
+use mathlib.Core.Path.{_≡_, refl, sym, ap, _∙_}
 use mathlib.Core.List.{List, [], _∷_}
 use mathlib.Core.Option.{Option, none, some}
 use Prim.Native.Nat.{ℕ, _-_, _<_}
@@ -9,18 +9,18 @@ use mathlib.Core.Bool.{_&&_}
 use lib.Dec.{leb}
 use Rattle.model.specs.Bytes.{splice}
 use Rattle.model.specs.Figure.{Figure, figures}
-use Rattle.model.specs.Listing.{Turn, Register, empty, Seen, Stage, writing, reading, has-decided, is-spent, Station, idle, active, Array, array, entry}
+use Rattle.model.specs.Listing.{Register, empty, Stage, writing, reading, has-decided, is-spent, Station, idle, active, Array, array, entry}
 use Rattle.model.specs.Listing.{Answer, refused, Move, move, placeArray, placeColumn}
-use Rattle.model.specs.Layout.{registerAt, recordAt, registerBytes, recordBytes, register, station, registerOf, recordOf, stationOf}
-use Rattle.model.specs.Calls.{After, Refusal, boardRefusal, unless, stations, islands, stationRefusal, stationAt, unlessRefused, putStation, putRegister, notGoing, access, stepped, stepOn, step}
-use Rattle.model.proofs.Board.Boards.{registerPart, station-other, register-length, register-record}
+use Rattle.model.specs.Layout.{registerAt, recordAt, registerBytes, recordBytes, station, registerOf, recordOf, stationOf}
+use Rattle.model.specs.Calls.{After, Refusal, unless, stations, islands, stationRefusal, stationAt, unlessRefused, putStation, putRegister, notGoing, access, stepped, stepOn, step}
+use Rattle.model.proofs.Board.Boards.{station-other, register-length, register-record}
 use Rattle.model.proofs.Board.Good.{GoodStation, GoodStage}
 use Rattle.model.proofs.Board.SoundFacts.{SoundBoard}
 use Rattle.model.proofs.Board.Values.{array-inside, sound-station}
 use Rattle.model.proofs.Calls.Access.{write-bytes, read-bytes}
 use Rattle.model.proofs.Listing.Going.{Going}
 use Rattle.model.proofs.Calls.CallsKeep.{going-of}
-use Rattle.model.proofs.Calls.Refusals.{Board, step-on, call-case, OnBoard, station-of, index-inside}
+use Rattle.model.proofs.Calls.Refusals.{Board, step-on, call-case, station-of, index-inside}
 
 -- the bytes put in at an offset
 pub record Change : Type 0 where

@@ -1,10 +1,10 @@
 -- The refusals in checking order: what passing them says, and that they do not depend on what is asked later.
 -- Relies on the calls' definitions and SoundFacts; the laws of the calls rely on it, and so do the code's proofs.
-use mathlib.Core.Path.{_≡_, refl, sym, ap, _∙_, subst}
+use mathlib.Core.Path.{_≡_, refl, sym, ap, _∙_}
 use mathlib.Core.Bool.{Bool, true, false, _&&_}
-use mathlib.Core.Logic.{_⊎_, inl, inr, ⊎-elim}
+use mathlib.Core.Logic.{_⊎_, inl, inr}
 use mathlib.Core.List.{List}
-use mathlib.Core.Option.{Option, none, some}
+use mathlib.Core.Option.{none, some}
 use Prim.Native.Nat.{ℕ, _-_, _≤_, _<_}
 use native.Mathlib.Omega.{arith}
 use lib.Dec.{T, eqb, leb, leb→le, le→leb, eqb→eq}
@@ -14,7 +14,7 @@ use Rattle.model.specs.Layout.{boardLength}
 use Rattle.model.specs.Sound.{sound}
 use Rattle.model.specs.Calls.{After, Refusal, unless, shapeRefusal, stations, islands, boardRefusal, stationRefusal, unlessRefused, stepOn, step}
 use Rattle.model.specs.Listing.{refused}
-use Rattle.model.proofs.Basics.Tests.{and-l, and-r, and-i, T-true, eq-T}
+use Rattle.model.proofs.Basics.Tests.{and-l, and-r, and-i, eq-T}
 use Rattle.model.proofs.Board.SoundFacts.{SoundBoard, sound-facts, facts-sound}
 
 pub some-none : {A : Type 0} {X : Type 0} (k : A) → some k ≡ none → X

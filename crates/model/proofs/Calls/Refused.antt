@@ -1,16 +1,16 @@
 -- A refused call answers its number and leaves every byte; a move of a going station is never a refusal.
 -- Relies on the calls' definitions and Refusals; the laws of lists of calls rely on it.
-use mathlib.Core.Path.{_≡_, refl, sym, _∙_, ap}
-use mathlib.Core.Bool.{Bool, true, false, cond}
+use mathlib.Core.Path.{_≡_, refl, sym, _∙_}
+use mathlib.Core.Bool.{true, false}
 use mathlib.Core.List.{List}
-use mathlib.Core.Option.{Option, none, some}
+use mathlib.Core.Option.{none, some}
 use Prim.Native.Nat.{ℕ, _+_, _-_}
 use native.Mathlib.Omega.{arith}
 use lib.Dec.{ltb}
 use Rattle.model.specs.Figure.{Figure, figures}
 use Rattle.model.specs.Listing.{Order, Turn, turnM, turnA, turnB, Grade, first, second, third, Register, Seen, nothing, seen, Stage, writing, reading, has-decided, is-spent}
 use Rattle.model.specs.Listing.{Station, idle, active, Answer, refused, accepted, Move, stay, onward, finish, ended, see, move}
-use Rattle.model.specs.Calls.{After, Refusal, RunAnswer, ran, notRun, shapeRefusal, boardRefusal, stationRefusal, stationAt, stations, islands, lay, propose, notGoing}
+use Rattle.model.specs.Calls.{After, Refusal, RunAnswer, notRun, boardRefusal, stationRefusal, stationAt, stations, islands, lay, propose, notGoing}
 use Rattle.model.specs.Calls.{access, stepped, stepOn, step, finished, run}
 use Rattle.model.proofs.Basics.Tests.{clash, cond-case}
 use Rattle.model.proofs.Listing.Going.{Going}

@@ -1,16 +1,16 @@
 -- A run is its single steps one after another, and on a sound board soundness need be tested only once.
 -- Relies on CallsKeep and Refusals; the code's run relies on it.
-use mathlib.Core.Path.{_≡_, refl, sym, ap, _∙_, subst}
+use mathlib.Core.Path.{_≡_, refl, ap, _∙_}
 use mathlib.Core.Bool.{Bool, true, false, cond}
 use mathlib.Core.List.{List, [], _∷_, _++_}
-use mathlib.Core.Option.{Option, none, some}
-use Prim.Native.Nat.{ℕ, zero, suc, _+_, _≤_}
+use mathlib.Core.Option.{Option, none}
+use Prim.Native.Nat.{ℕ, suc, _+_, _≤_}
 use native.Mathlib.Omega.{arith}
-use lib.Dec.{T, leb, le→leb}
+use lib.Dec.{leb, le→leb}
 use lib.ListN.{length}
 use Rattle.model.specs.Figure.{Figure}
 use Rattle.model.specs.Listing.{Answer, accepted}
-use Rattle.model.specs.Calls.{After, Ran, tally, ranOne, ranFrom, notYet, notRun, finished, run, unless, boardRefusal, unlessRefused, stepOn, step}
+use Rattle.model.specs.Calls.{After, Ran, tally, ranOne, ranFrom, notYet, notRun, finished, run, boardRefusal, unlessRefused, stepOn, step}
 use Rattle.model.proofs.Calls.Refusals.{Board, board-passes, unless-passes, step-on}
 use Rattle.model.proofs.Calls.CallsKeep.{step-keeps}
 

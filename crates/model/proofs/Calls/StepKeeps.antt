@@ -1,22 +1,22 @@
 -- An accepted step keeps any sound board sound.
 -- Relies on Keeps, Moves, Values and Written; the laws of the calls rely on it.
 use mathlib.Core.Path.{_≡_, refl, ap, _∙_, subst, subst⁻¹}
-use mathlib.Core.Bool.{Bool, true, false, cond, _&&_}
+use mathlib.Core.Bool.{true, false}
 use mathlib.Core.List.{List}
-use mathlib.Core.Option.{Option, none, some}
-use Prim.Native.Nat.{ℕ, _+_, _≤_, _<_}
+use mathlib.Core.Option.{some}
+use Prim.Native.Nat.{ℕ, _+_, _<_}
 use native.Mathlib.Nat.{not-suc-le-zero}
 use native.Mathlib.Omega.{arith}
-use lib.Dec.{T, ltb, lt→ltb, ltb→lt, lit≤, leb, eqb}
+use lib.Dec.{T, ltb, lt→ltb, ltb→lt, leb, eqb}
 use borrow.Author.Tests.{lt-ltb}
-use Rattle.model.specs.Bytes.{byte, part, zeros, implies, digits}
+use Rattle.model.specs.Bytes.{part, zeros, implies, digits}
 use Rattle.model.specs.Figure.{Figure, figures, figureBytes}
-use Rattle.model.specs.Listing.{Flag, adopt, commit, Turn, turnM, turnA, turnB, Grade, first, second, third, Register, empty, Seen, nothing, seen, Stage, writing, reading, has-decided, is-spent}
-use Rattle.model.specs.Listing.{Station, idle, active, Array, array, entry, Move, stay, onward, finish, ended, see, move, placeArray, placeColumn}
+use Rattle.model.specs.Listing.{Flag, adopt, commit, Turn, turnM, turnA, turnB, Grade, first, second, third, Register, Seen, nothing, seen, Stage, writing, reading, has-decided, is-spent}
+use Rattle.model.specs.Listing.{active, array, entry, Move, stay, onward, finish, ended, see, move, placeArray, placeColumn}
 use Rattle.model.specs.Listing.{flagNumber}
-use Rattle.model.specs.Layout.{register, layRegister, registerFields, registerBytes, registerOf, stationOf}
+use Rattle.model.specs.Layout.{register, layRegister, registerFields, registerBytes, registerOf}
 use Rattle.model.specs.Sound.{registerSound, marksIn, islandsIn, sameRegister, ownWritten, ownSeen, ownPassed}
-use Rattle.model.specs.Calls.{putStation, putRegister, access}
+use Rattle.model.specs.Calls.{putRegister, access}
 use Rattle.model.proofs.Listing.Going.{Going}
 use Rattle.model.proofs.Basics.Tests.{true-T, implies-use, implies-make, cond-case}
 use Rattle.model.proofs.Board.Places.{InBoard, Compared, lower, equal, higher, compared}
@@ -26,8 +26,8 @@ use Rattle.model.proofs.Board.Good.{GoodSeen, GoodStage, GoodStation}
 use Rattle.model.proofs.Listing.OneRead.{own-kept, own-met}
 use Rattle.model.proofs.Listing.Moves.{move-good, move-fits}
 use Rattle.model.proofs.Calls.Access.{write-bytes, read-bytes}
-use Rattle.model.proofs.Board.SoundFacts.{registerTest, SoundBoard, SoundBut}
-use Rattle.model.proofs.Board.Values.{array-inside, register-same-refl, SoundStation, sound-station, own-register, readable}
+use Rattle.model.proofs.Board.SoundFacts.{registerTest, SoundBoard}
+use Rattle.model.proofs.Board.Values.{array-inside, register-same-refl, SoundStation, own-register, readable}
 use Rattle.model.proofs.Board.Keeps.{sound-but, register-keeps, station-keeps}
 
 -- ---- the register that a write puts down

@@ -1,13 +1,11 @@
 -- One read of a collect, for any kind of register, any type of figures and any order on them: once something is seen it
 -- stays so, a filled register brings something, and so the last read always leaves something seen.
 -- Relies on the listing; that the calls keep a board sound relies on it.
-use mathlib.Core.Path.{_≡_, refl, sym, subst}
-use mathlib.Core.Bool.{Bool, true, false, cond}
+use mathlib.Core.Path.{_≡_}
 use Prim.Native.Nat.{ℕ, _+_, _≤_, _<_}
 use native.Mathlib.Omega.{arith}
-use lib.Dec.{ltb}
-use Rattle.model.specs.Listing.{Order, Flag, adopt, commit, Turn, turnM, turnA, turnB, Grade, first, second, third}
-use Rattle.model.specs.Listing.{Register, empty, filled, Seen, nothing, seen, entry, larger, pairAbove, add, see}
+use Rattle.model.specs.Listing.{Order, Flag, adopt, commit, Turn, turnM, turnA, turnB, first, second, third}
+use Rattle.model.specs.Listing.{Register, empty, filled, Seen, nothing, seen, entry, pairAbove, add, see}
 use Rattle.model.proofs.Basics.Tests.{cond-case}
 use Rattle.model.proofs.Board.Places.{Compared, lower, equal, higher, compared}
 

@@ -1,19 +1,14 @@
 -- One move of the listing keeps a station good: its fields in range, its figures of 32 bits, and its own value seen once
 -- its own position is passed.
 -- Relies on OneRead; that an accepted step keeps a board sound relies on it.
-use mathlib.Core.Path.{_≡_, refl, sym, ap, _∙_, subst}
-use mathlib.Core.Bool.{Bool, true, false, cond}
-use mathlib.Core.Option.{Option, none, some}
-use Prim.Native.Nat.{ℕ, zero, suc, _+_, _≤_, _<_}
-use native.Mathlib.Omega.{arith}
-use lib.Dec.{T, ltb, ltb→lt}
+use Prim.Native.Nat.{ℕ, _+_, _≤_, _<_}
+use lib.Dec.{ltb}
 use borrow.Author.Tests.{ltb-true, ltb-false}
 use Rattle.model.specs.Figure.{Figure, figures}
-use Rattle.model.specs.Listing.{Flag, Turn, turnM, turnA, turnB, Grade, first, second, third}
-use Rattle.model.specs.Listing.{Register, Seen, nothing, seen, Stage, writing, reading, has-decided, is-spent, Station, active}
+use Rattle.model.specs.Listing.{Turn, turnM, turnA, turnB, Grade, first, second, third}
+use Rattle.model.specs.Listing.{Register, Seen, nothing, seen, Stage, writing, reading, has-decided, is-spent}
 use Rattle.model.specs.Listing.{Move, stay, onward, finish, ended, see, move}
-use Rattle.model.specs.Sound.{ownSeen, ownPassed}
-use Rattle.model.proofs.Basics.Tests.{implies-use, implies-make, cond-case}
+use Rattle.model.proofs.Basics.Tests.{cond-case}
 use Rattle.model.proofs.Board.Codec.{Fits, FitsRegister, FitsSeen, FitsStage}
 use Rattle.model.proofs.Board.Good.{GoodSeen, GoodStage}
 use Rattle.model.proofs.Listing.Collect.{Something}

@@ -2,11 +2,11 @@
 -- once seen, no higher than the best.
 -- Relies on Good, Collect and Order; Moves relies on it.
 use mathlib.Core.Path.{_≡_, refl, sym, subst}
-use mathlib.Core.Bool.{Bool, true, false, not, cond}
+use mathlib.Core.Bool.{Bool, true, not}
 use Prim.Native.Nat.{ℕ, _<_}
 use lib.Dec.{T, T-not, not-T}
 use Rattle.model.specs.Figure.{Figure, figures, above}
-use Rattle.model.specs.Listing.{Order, Flag, adopt, commit, Turn, turnM, turnA, turnB, Grade, first, second, third}
+use Rattle.model.specs.Listing.{Flag, adopt, commit, Turn, turnM, turnA, turnB, Grade, first, second, third}
 use Rattle.model.specs.Listing.{Register, empty, filled, Seen, nothing, seen, entry, larger, pairAbove, add, see}
 use Rattle.model.specs.Sound.{ownSeen}
 use Rattle.model.proofs.Basics.Tests.{true-T, cond-case}

@@ -1,15 +1,15 @@
 -- What soundness needs of the order of figures: no figure is above itself, and above is transitive; the same of pairs.
 -- Relies on Figure's order; only this file changes with it. Collects' laws on the best value rely on it.
-use mathlib.Core.Path.{_≡_, refl, sym, ap, subst}
-use mathlib.Core.Bool.{Bool, true, false, not, cond, _&&_, _||_}
+use mathlib.Core.Path.{_≡_, sym, subst}
+use mathlib.Core.Bool.{Bool, true, false, _&&_, _||_}
 use mathlib.Core.Logic.{_⊎_, inl, inr, ⊎-elim}
 use Prim.Native.Nat.{ℕ, _<_}
 use native.Mathlib.Nat.{lt-irrefl, lt-trans}
 use native.Mathlib.Omega.{arith}
-use lib.Dec.{T, T-not, not-T, ltb, eqb, ltb→lt, lt→ltb, eqb→eq, eqb-refl}
+use lib.Dec.{T, ltb, eqb, ltb→lt, lt→ltb, eqb→eq}
 use lib.IntN.{pos, negsuc}
-use Rattle.model.specs.Figure.{Figure, above, figures, sameFigure}
-use Rattle.model.specs.Listing.{Order, pairAbove, larger}
+use Rattle.model.specs.Figure.{Figure, above, figures}
+use Rattle.model.specs.Listing.{pairAbove}
 use Rattle.model.proofs.Basics.Tests.{and-l, and-r, and-i, or-case, eq-T}
 
 pub above-irrefl : (x : Figure) → T (above x x) → ⊥

@@ -1,11 +1,10 @@
 -- What a move writes: a write puts down the turn's entry, a read puts down nothing.
 -- Relies on the listing, for any type of figures; the laws of an accepted step rely on it.
 use mathlib.Core.Path.{_≡_, refl}
-use mathlib.Core.Bool.{Bool, true, false, cond}
-use mathlib.Core.Option.{Option, none, some}
+use mathlib.Core.Option.{none}
 use Prim.Native.Nat.{ℕ, _+_}
 use lib.Dec.{ltb}
-use Rattle.model.specs.Listing.{Order, Turn, turnM, turnA, turnB, Grade, first, second, third, Register, Seen, nothing, seen, Stage, reading}
+use Rattle.model.specs.Listing.{Order, Turn, turnM, turnA, turnB, Grade, first, second, third, Register, Seen, nothing, seen, reading}
 use Rattle.model.proofs.Basics.Tests.{cond-case}
 use Rattle.model.specs.Listing.{Move, stay, onward, finish, ended, see, move}
 

@@ -4,7 +4,7 @@ use mathlib.Core.Path.{_≡_, refl, subst}
 use Prim.Native.Nat.{ℕ, zero, suc, _<_}
 use native.Mathlib.Decide.{ℕ-discrete}
 use native.Mathlib.Omega.{arith}
-use Rattle.model.specs.Listing.{Order, Flag, adopt, commit, Register, empty, filled, Turn, turnM, turnA, turnB, Grade, first, second, third, Seen, nothing, seen, pairAbove, add, see}
+use Rattle.model.specs.Listing.{Order, Flag, Register, filled, Turn, Grade, Seen, nothing, seen, see}
 use Rattle.model.proofs.Listing.Collect.{Something, add-sees, seen-stays}
 
 module _ {F : Type 0} where

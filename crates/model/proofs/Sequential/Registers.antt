@@ -1,13 +1,13 @@
 -- Predicates of the registers of an array, and what a write by one station changes of them.
 -- Relies on the state; what a collect sees and the states between turns rely on it.
-use mathlib.Core.Path.{_≡_, refl}
+use mathlib.Core.Path.{_≡_}
 use mathlib.Core.Bool.{Bool, true, false, cond, _&&_}
 use mathlib.Core.Option.{some}
 use Prim.Native.Nat.{ℕ, _<_}
 use native.Mathlib.Omega.{arith}
 use lib.Dec.{eqb}
-use borrow.Author.Tests.{eq-eqb, ne-eqb}
-use Rattle.model.specs.Listing.{Flag, commit, Register, empty, filled, Array, inM, inA, inB}
+use borrow.Author.Tests.{ne-eqb}
+use Rattle.model.specs.Listing.{Flag, commit, Register, empty, filled, Array}
 use Rattle.model.proofs.Basics.Tests.{cond-case}
 use Rattle.model.proofs.Agreement.State.{put, sameArray, array-self, putWritten}
 

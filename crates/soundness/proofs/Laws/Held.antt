@@ -17,7 +17,7 @@ use borrow.Author.Tests.{eq-eqb, ne-eqb, lt-ltb, le-ltb, le-leb, lt-leb}
 use Rattle.model.specs.declared.Record.{Record}
 use Rattle.model.specs.declared.Register.{Register}
 use Rattle.model.specs.Bytes.{part}
-use Rattle.model.specs.Figure.{Figure, figures, sameFigure}
+use Rattle.model.specs.Figure.{Figure, sameFigure}
 use Rattle.model.specs.Listing.{flagOf, flagNumber, Turn, turnM, turnA, turnB, Flag, array, inA, inB, entry, filled}
 use Rattle.model.specs.Layout.{boardLength, rowOf, registerAt, readRegister, registerValue, marked-by, register, registerOf, readingOf}
 use Rattle.model.specs.Sound.{sameRegister, ownWritten}

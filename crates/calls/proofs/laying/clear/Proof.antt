@@ -1,13 +1,13 @@
 -- `calls::laying::clear` meets its contract. The loop's invariant: the first i bytes are zero, the others as they were.
 -- Assumes nothing.
-use mathlib.Core.Path.{_≡_, refl, sym, ap, _∙_}
+use mathlib.Core.Path.{_≡_, refl, ap, _∙_}
 use mathlib.Core.List.{List, _++_, append-nil}
 use Prim.Native.Nat.{ℕ, _+_, _-_, _≤_, _<_, zero-le}
 use native.Mathlib.Omega.{arith}
 use lib.ListN.{length, replicate, drop, set, length-set}
 use lib.Seq.{drop-length}
 use borrow.Author.Needs.{needs}
-use borrow.Author.Fill.{fill-none, fill-more}
+use borrow.Author.Fill.{fill-more}
 use Rattle.calls.proofs.laying.clear.Statement.{statement}
 use Rattle.calls.proofs.laying.clear.Tie as tie
 use Rattle.calls.proofs.laying.clear.Reads as reads

@@ -1,4 +1,3 @@
-use borrow.Author.Needs.{needs}
 use Rattle.calls.proofs.Laws.Showing.{not-shown}
 use Rattle.calls.proofs.showing.not_shown.Statement.{statement}
 use Rattle.calls.proofs.showing.not_shown.Tie as tie

@@ -1,7 +1,6 @@
 use mathlib.Core.Path.{refl}
 use Prim.Native.Nat.{_≤_, _-_}
 use native.Mathlib.Omega.{arith}
-use borrow.Author.Needs.{needs}
 use Rattle.shown.specs.Puts.{Holds}
 use Rattle.calls.specs.Showing.{openTo}
 use Rattle.calls.proofs.Laws.Stepping.{head}
