@@ -1,3 +1,5 @@
+-- `laying::lay` meets its contract:
+-- each refusal is a case of the shape, in checking order; what is left is cleared bytes under a head of two.
 use borrow.Author.Needs.{needs}
 use native.Mathlib.Omega.{arith}
 use lib.ListN.{length-set}

@@ -1,3 +1,5 @@
+-- `places::board_length` meets its contract:
+-- no part overflows, since the products are bounded by those of sixteen and sixty-four.
 use native.Mathlib.Nat.{mul-le-mul}
 use native.Mathlib.Omega.{arith}
 use Rattle.model.specs.Layout.{boardLength}

@@ -1,3 +1,5 @@
+-- `places::register_offset` meets its contract:
+-- no part overflows, since the product is bounded by that of the largest board.
 use native.Mathlib.Nat.{mul-le-mul}
 use native.Mathlib.Omega.{arith}
 use Rattle.calls.proofs.places.register_offset.Statement.{statement}

@@ -1,3 +1,4 @@
+-- `proposing::beginning` meets its contract: the fields are those of a station that has just proposed.
 use lib.IntN.{pos}
 use mir.Facts.{toZ-ofZ}
 use Rattle.model.specs.Listing.{proposed}

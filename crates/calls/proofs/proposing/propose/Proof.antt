@@ -1,3 +1,4 @@
+-- `proposing::propose` meets its contract: the board's own refusals come first, then the proposal on a sound board.
 use borrow.Author.Needs.{needs}
 use mir.Facts.{toZ-ofZ}
 use Rattle.calls.proofs.Laws.Checking.{passed}

@@ -1,3 +1,5 @@
+-- `proposing::propose_on` meets its contract:
+-- 12 and 13 in checking order, else one record is put; each return is a law of Proposing.
 use native.Mathlib.Omega.{arith}
 use borrow.Author.Needs.{needs}
 use mathlib.Core.Path.{ap, _∙_}

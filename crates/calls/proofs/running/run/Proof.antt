@@ -1,3 +1,4 @@
+-- `running::run` meets its contract: 6, then the board's own refusals, then the run on a sound board.
 use mathlib.Core.Path.{refl}
 use native.Mathlib.Omega.{arith}
 use borrow.Author.Needs.{needs}

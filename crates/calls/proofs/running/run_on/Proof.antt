@@ -1,3 +1,5 @@
+-- `running::run_on` meets its contract:
+-- the loop keeps the steps taken so far and a board that is still sound; each turn is one step of Running.
 use mathlib.Core.Path.{_≡_, refl}
 use Prim.Native.Nat.{_-_}
 use native.Mathlib.Omega.{arith}

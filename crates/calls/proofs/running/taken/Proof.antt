@@ -1,3 +1,4 @@
+-- `running::taken` meets its contract: an answer counts unless it is a refusal.
 use mathlib.Core.Path.{sym, ap}
 use borrow.Author.Needs.{needs}
 use Rattle.model.specs.Listing.{accepted}

@@ -1,3 +1,4 @@
+-- `showing::not_shown` meets its contract: a refusal has no line beside it.
 use Rattle.calls.proofs.Laws.Showing.{not-shown}
 use Rattle.calls.proofs.showing.not_shown.Statement.{statement}
 use Rattle.calls.proofs.showing.not_shown.Tie as tie

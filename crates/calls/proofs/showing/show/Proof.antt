@@ -1,3 +1,4 @@
+-- `showing::show` meets its contract: the board's own refusals come first, then the line of a sound board.
 use borrow.Author.Needs.{needs}
 use mathlib.Core.Path.{_∙_}
 use Rattle.calls.proofs.Laws.Checking.{passed}

@@ -1,3 +1,4 @@
+-- `showing::show_on` meets its contract: the line of the stations, closed, never passes 512 bytes, so 17 cannot arise.
 use borrow.Author.Needs.{needs}
 use Rattle.calls.proofs.Laws.Showing.{closes, shown-on}
 use Rattle.calls.proofs.showing.show_on.Statement.{statement}

@@ -1,3 +1,4 @@
+-- `showing::stations_of` meets its contract: the loop puts one station after another; each turn is one law of Showing.
 use mathlib.Core.Path.{refl}
 use Prim.Native.Nat.{_≤_, _-_}
 use native.Mathlib.Omega.{arith}

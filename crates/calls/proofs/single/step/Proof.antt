@@ -1,3 +1,4 @@
+-- `single::step` meets its contract: the board's own refusals come first, then the step on a sound board.
 use borrow.Author.Needs.{needs}
 use Rattle.calls.proofs.Laws.Checking.{passed, step-turned, step-passed}
 use Rattle.calls.proofs.single.step.Statement.{statement}

@@ -1,3 +1,5 @@
+-- `sound_step::step_on` meets its contract:
+-- 12, 14, 15 and 16 in checking order, else one access; each return is a law of Stepping.
 use native.Mathlib.Omega.{arith}
 use borrow.Author.Needs.{needs}
 use Rattle.calls.proofs.Laws.Stepping.{head, all-bytes, twelve-low, twelve-high, own-record, record-on, fourteen, fifteen, sixteen, on-size, is-ready, accepted}

@@ -1,3 +1,5 @@
+-- `stepping::access` meets its contract:
+-- what is put back is what the listing's move left, at the places it names; each return is a law of Accessing.
 use borrow.Author.Needs.{needs}
 use Rattle.calls.proofs.Laws.Accessing.{place-fits, record-fits, record-fits-after, accessed-writing, accessed-reading}
 use Rattle.calls.proofs.stepping.access.Statement.{statement}

@@ -1,3 +1,5 @@
+-- `stepping::touched` meets its contract:
+-- at each phase the row and the column are those of the stage that the record stands for.
 use mathlib.Core.Path.{refl}
 use native.Mathlib.Omega.{arith}
 use borrow.Author.Needs.{needs}
