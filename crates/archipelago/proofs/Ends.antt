@@ -9,7 +9,7 @@ use Rattle.model.specs.declared.StepAnswer.{StepAnswer}
 use Rattle.model.specs.declared.StepAnswer.the-variants.{Went, Marked, Adopted, Decided, Spent}
 use Rattle.model.specs.Figure.{Figure}
 use Rattle.model.specs.Listing.{Flag, turnM, turnA, turnB, first, second, third, Seen, nothing, seen, Move}
-use Rattle.model.specs.Listing.{flagOf, stay, onward, finish, ended}
+use Rattle.model.specs.Listing.{stay, onward, finish, ended}
 use Rattle.model.specs.Layout.{gradeNumber, seenNumber, bestIsland, bestFigure, seenOf, fields, recordFields, writePhase, flagByte}
 use Rattle.model.specs.Listing.{flagNumber}
 use Rattle.model.specs.Told.{told}
@@ -58,14 +58,14 @@ module _ (K : ℕ) (v : Figure) (c : ℕ) (x : Figure) where
   end-m (seen g k y) = record { station = refl; written = refl; answer = refl }
 
   end-commit : (a : Seen Figure) → number-at a ≡ 1 → Advanced v (ended K turnA c x a) (begins 5 c 2 v (figure-at a) (Marked 2 (figure-at a)))
-  unfolding figure-at number-at endedSeen seenNumber gradeNumber bestFigure ended finish stay begins staying Written told flagOf recordFields writePhase flagByte flagNumber
+  unfolding figure-at number-at endedSeen seenNumber gradeNumber bestFigure ended finish stay begins staying Written told recordFields writePhase flagByte flagNumber
   end-commit nothing e = absurd (omega arith)
   end-commit (seen first k y) e = record { station = refl; written = refl; answer = refl }
   end-commit (seen second k y) e = absurd (omega arith)
   end-commit (seen third k y) e = absurd (omega arith)
 
   end-adopt : (a : Seen Figure) → (number-at a ≡ 1 → ⊥) → Advanced v (ended K turnA c x a) (begins 5 c 1 v (figure-at a) (Marked 1 (figure-at a)))
-  unfolding figure-at number-at endedSeen seenNumber gradeNumber bestFigure ended finish stay begins staying Written told flagOf recordFields writePhase flagByte flagNumber
+  unfolding figure-at number-at endedSeen seenNumber gradeNumber bestFigure ended finish stay begins staying Written told recordFields writePhase flagByte flagNumber
   end-adopt nothing e = record { station = refl; written = refl; answer = refl }
   end-adopt (seen first k y) e = absurd (e refl)
   end-adopt (seen second k y) e = record { station = refl; written = refl; answer = refl }

@@ -56,11 +56,11 @@ pub data Station (F : Type 0) : Type 0 where
   idle : Station F
   active : (v : F) → Stage F → Station F
 
--- "It answers with its kind and fields"
+-- "It answers with its kind and fields". A flag is given by its number, so that a contract fixes that number.
 pub data Answer (F : Type 0) : Type 0 where
   wrote read : Answer F
   went : (c : ℕ) (x : F) → Answer F
-  marked : Flag → (x : F) → Answer F
+  marked : (flag : ℕ) (x : F) → Answer F
   adopted decided spent : (c : ℕ) (x : F) → Answer F
   refused : (number : ℕ) → Answer F
 
@@ -129,9 +129,9 @@ module _ {F : Type 0} where
 
   unfoldable pub finish : (K : ℕ) → Turn → (c : ℕ) → Grade → (k : ℕ) (y : F) → Move F
   finish K turnM c g k y = stay (writing turnA k y) (went k y)
-  finish K turnA c first k y = stay (writing (turnB commit) c y) (marked commit y)
-  finish K turnA c second k y = stay (writing (turnB adopt) c y) (marked adopt y)
-  finish K turnA c third k y = stay (writing (turnB adopt) c y) (marked adopt y)
+  finish K turnA c first k y = stay (writing (turnB commit) c y) (marked (flagNumber commit) y)
+  finish K turnA c second k y = stay (writing (turnB adopt) c y) (marked (flagNumber adopt) y)
+  finish K turnA c third k y = stay (writing (turnB adopt) c y) (marked (flagNumber adopt) y)
   finish K (turnB f) c first k y = onward K c y
   finish K (turnB f) c second k y = stay (has-decided c y) (decided c y)
   finish K (turnB f) c third k y = onward K c y

@@ -9,7 +9,7 @@ use Rattle.model.specs.declared.RunVerdict.{RunVerdict}
 use Rattle.model.specs.declared.RunVerdict.the-variants as runs
 use Rattle.model.specs.declared.ShownLine.{ShownLine}
 use Rattle.model.specs.Figure.{Figure}
-use Rattle.model.specs.Listing.{flagOf, Answer, wrote, read, went, marked, adopted, decided, spent, refused}
+use Rattle.model.specs.Listing.{Answer, wrote, read, went, marked, adopted, decided, spent, refused}
 use Rattle.model.specs.Calls.{Refusal, RunAnswer, ran, notRun}
 use Rattle.model.specs.Show.{Shown}
 
@@ -18,7 +18,7 @@ unfoldable pub told : StepAnswer → Answer Figure
 told Wrote = wrote
 told Read = read
 told (Went c v) = went c v
-told (Marked f v) = marked (flagOf f) v
+told (Marked f v) = marked f v
 told (Adopted c v) = adopted c v
 told (Decided c v) = decided c v
 told (Spent c v) = spent c v

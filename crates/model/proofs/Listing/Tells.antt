@@ -4,7 +4,7 @@
 use mathlib.Core.Path.{_≡_, refl}
 use Prim.Native.Nat.{ℕ, _+_}
 use lib.Dec.{ltb}
-use Rattle.model.specs.Listing.{Order, Turn, turnM, turnA, turnB, Grade, first, second, third, Register, Seen, nothing, seen}
+use Rattle.model.specs.Listing.{Order, Flag, adopt, commit, flagNumber, Turn, turnM, turnA, turnB, Grade, first, second, third, Register, Seen, nothing, seen}
 use Rattle.model.specs.Listing.{Stage, writing, reading, has-decided, is-spent, Answer, wrote, read, went, marked, adopted, decided, spent, refused}
 use Rattle.model.proofs.Basics.Tests.{cond-case}
 use Rattle.model.specs.Listing.{Move, stay, onward, finish, ended, see, move}
@@ -14,7 +14,7 @@ module _ {F : Type 0} where
   Tells wrote s = (t : Turn) × (c : ℕ) × (x : F) × (s ≡ reading t c x 0 nothing)
   Tells read s = (t : Turn) × (c : ℕ) × (x : F) × (p : ℕ) × (a : Seen F) × (s ≡ reading t c x p a)
   Tells (went c x) s = s ≡ writing turnA c x
-  Tells (marked f x) s = (c : ℕ) × (s ≡ writing (turnB f) c x)
+  Tells (marked k x) s = (f : Flag) × (k ≡ flagNumber f) × (c : ℕ) × (s ≡ writing (turnB f) c x)
   Tells (adopted c x) s = s ≡ writing turnM c x
   Tells (decided c x) s = s ≡ has-decided c x
   Tells (spent c x) s = s ≡ is-spent c x
@@ -31,9 +31,9 @@ module _ {F : Type 0} where
     finish-tells : (t : Turn) (c : ℕ) (g : Grade) (k : ℕ) (y : F) → Told (finish K t c g k y)
     unfolding Told Tells finish stay
     finish-tells turnM c g k y = refl
-    finish-tells turnA c first k y = (c, refl)
-    finish-tells turnA c second k y = (c, refl)
-    finish-tells turnA c third k y = (c, refl)
+    finish-tells turnA c first k y = (commit, refl, c, refl)
+    finish-tells turnA c second k y = (adopt, refl, c, refl)
+    finish-tells turnA c third k y = (adopt, refl, c, refl)
     finish-tells (turnB f) c first k y = onward-tells c y
     finish-tells (turnB f) c second k y = refl
     finish-tells (turnB f) c third k y = onward-tells c y

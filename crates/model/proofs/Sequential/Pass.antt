@@ -6,7 +6,7 @@ use mathlib.Core.Bool.{true}
 use Prim.Native.Nat.{ℕ, _+_, _≤_, _<_}
 use native.Mathlib.Omega.{arith}
 use borrow.Author.Tests.{lt-ltb}
-use Rattle.model.specs.Listing.{Order, Flag, adopt, commit, Register, filled, turnM, turnA, turnB, Grade, first, second, third, seen, Stage, writing, has-decided, Station, decided, marked, adopted, inM, inA, inB, Move, array, entry, stay, onward, finish}
+use Rattle.model.specs.Listing.{Order, Flag, adopt, commit, flagNumber, Register, filled, turnM, turnA, turnB, Grade, first, second, third, seen, Stage, writing, has-decided, Station, decided, marked, adopted, inM, inA, inB, Move, array, entry, stay, onward, finish}
 use Rattle.model.proofs.Agreement.State.{put, put-same, put-other, sameArray, putWritten}
 use Rattle.model.proofs.Sequential.Turns.{Ended, goOn, stepUntil}
 use Rattle.model.proofs.Sequential.Registers.{Registers, All, Figure, Commit, all-put, all-map, write}
@@ -17,7 +17,7 @@ use Rattle.model.proofs.Sequential.CollectB.{IfCommit, commit-if, only-
 use Rattle.model.proofs.Sequential.Alone.{loops, alone, settle, loop-turn}
 
 marks-adopt : {F : Type 0} (K c : ℕ) (g : Grade) (k : ℕ) (y : F) → Different g
-    → finish K turnA c g k y ≡ stay (writing (turnB adopt) c y) (marked adopt y)
+    → finish K turnA c g k y ≡ stay (writing (turnB adopt) c y) (marked (flagNumber adopt) y)
 unfolding finish Different
 marks-adopt K c first k y h = absurd h
 marks-adopt K c second k y h = refl
