@@ -2,9 +2,7 @@
 pub mod Turns
 pub mod Registers
 pub mod Collected
-pub mod CollectM
-pub mod CollectA
-pub mod CollectB
+pub mod Collects
 pub mod Alone
 pub mod Pass
 pub mod Between

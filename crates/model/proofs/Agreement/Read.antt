@@ -9,7 +9,7 @@ use native.Mathlib.Omega.{arith}
 use Rattle.model.specs.Listing.{Order, adopt, commit, Register, Turn, turnM, turnA, turnB, Seen, reading, Station, active, inA, inB, array, see}
 use Rattle.model.proofs.Agreement.State.{put}
 use Rattle.model.proofs.Agreement.Cells.{Cell, standing}
-use Rattle.model.proofs.Agreement.Registers.{Says, Marked, Figure, Best, Met, Left, Brought, Clean, Harmless, says-one}
+use Rattle.model.proofs.Agreement.Registers.{Says, Marked, Figure, Best, Met, Left, Brought, Clean, Harmless, harmless-says, harmless-marked, says-one, adopt≢commit}
 use Rattle.model.proofs.Agreement.Reads.{located, met, kept, brought, clean}
 use Rattle.model.proofs.Agreement.Own.{Mine}
 use Rattle.model.proofs.Agreement.Passed.{Passed}
@@ -65,7 +65,7 @@ module _ {F : Type 0} (o : Order F) (sameIs : (x y : F) → o .same x y ≡ true
       where
         go : Passed (turnB commit) k j before ⊎ Harmless (turnB commit) x (f j .register (inB k)) → MayPass k j before
         go (inl w) = passing w
-        go (inr w) = absurd (w m)
+        go (inr w) = absurd (adopt≢commit (harmless-marked commit adopt x (f j .register (inB k)) w m))
     over-adopts j k m (past q) = absurd q
 
     met-none : (j k : ℕ) → Marked commit (f j .register (inB k)) → Passed (turnB adopt) k j (looked o v t c x p a there)
@@ -76,7 +76,7 @@ module _ {F : Type 0} (o : Order F) (sameIs : (x y : F) → o .same x y ≡ true
         go : Passed (turnB adopt) k j before ⊎ Harmless (turnB adopt) x (f j .register (inB k))
             → Passed (turnB adopt) k j before
         go (inl w) = w
-        go (inr w) = absurd (w m)
+        go (inr w) = absurd (adopt≢commit (sym (harmless-marked adopt commit x (f j .register (inB k)) w m)))
 
     misses : (j k : ℕ) (y z : F) → Passed turnA k j (looked o v t c x p a there)
         → Says (f i .register (inA k)) y → Says (f j .register (inA k)) z → Passed turnA k j before ⊎ (y ≡ z)
@@ -88,7 +88,7 @@ module _ {F : Type 0} (o : Order F) (sameIs : (x y : F) → o .same x y ≡ true
 
         go : Passed turnA k j before ⊎ Harmless turnA x (f j .register (inA k)) → Passed turnA k j before ⊎ (y ≡ z)
         go (inl w) = inl w
-        go (inr w) = inr (says-one (f i .register (inA k)) y x l mine ∙ sym (w z r))
+        go (inr w) = inr (says-one (f i .register (inA k)) y x l mine ∙ sym (harmless-says x z (f j .register (inA k)) w r))
 
     held : (k : ℕ) (y : F) → Best (array t c) (see o t a there) k y → Licensed n f k y
     held k y b = go (located o t c a there k y b)

@@ -1,7 +1,7 @@
 -- What one read does to what a collect has seen, for any kind of register: it brings what its own register holds and
--- keeps it, it is clean only if it was and the register is harmless, and its figures are figures that it met.
--- Relies on the words for registers and on the listing's `see`; the moves rely on it.
-use mathlib.Core.Path.{_≡_, refl, sym}
+-- keeps it, it is clean exactly if it was and the register is harmless, and its figures are figures that it met.
+-- Relies on the words for registers and on the listing's `see`; the moves and the sequential run's collects rely on it.
+use mathlib.Core.Path.{_≡_, refl, sym, _∙_}
 use mathlib.Core.Bool.{Bool, true, false, cond, _&&_, _||_}
 use mathlib.Core.Logic.{_⊎_, inl, inr}
 use Prim.Native.Nat.{ℕ, _≤_}
@@ -22,12 +22,6 @@ not-first true b e = e
 not-first false b e = refl
 
 module _ {F : Type 0} where
-  harmless-empty : (t : Turn) (x : F) → Harmless t x empty
-  harmless-empty turnM x = tt
-  harmless-empty turnA x = λ y h. absurd h
-  harmless-empty (turnB adopt) x = λ h. h
-  harmless-empty (turnB commit) x = λ h. h
-
   pub left-entry : (t : Turn) (c : ℕ) (x : F) → Left t c x (entry t c x)
   unfolding entry
   left-entry turnM c x = omega arith
@@ -105,22 +99,19 @@ module _ {F : Type 0} (o : Order F) where
     pub kept : (t : Turn) (c : ℕ) (x : F) (a : Seen F) (r : Register F) → Brought t c x a → Brought t c x (see o t a r)
     unfolding see add
     kept t c x a empty h = h
-    kept turnM c x nothing (filled f k y) h = absurd h
+    kept t c x nothing (filled f k y) h = absurd h
     kept turnM c x (seen g j z) (filled f k y) h =
         cond-case (λ (a : Seen F). Brought turnM c x a) (pairAbove o k y j z) _ _
         (λ e. omega (arith, above-high k y j z e)) (λ e. h)
-    kept turnA c x nothing (filled f k y) h = absurd h
     kept turnA c x (seen first j z) (filled f k y) h =
         cond-case (λ (g : Grade). Brought turnA c x (seen g j (larger o z y))) (o .same z y) _ _
         (λ e. larger-is (λ (w : F). w ≡ x) z y h (cc (sameIs z y e))) (λ e. tt)
     kept turnA c x (seen second j z) (filled f k y) h = tt
     kept turnA c x (seen third j z) (filled f k y) h = tt
-    kept (turnB adopt) c x nothing (filled f k y) h = absurd h
     kept (turnB adopt) c x (seen first j z) (filled adopt k y) h = tt
     kept (turnB adopt) c x (seen first j z) (filled commit k y) h = tt
     kept (turnB adopt) c x (seen second j z) (filled f k y) h = absurd h
     kept (turnB adopt) c x (seen third j z) (filled f k y) h = tt
-    kept (turnB commit) c x nothing (filled f k y) h = absurd h
     kept (turnB commit) c x (seen first j z) (filled f k y) h = absurd h
     kept (turnB commit) c x (seen second j z) (filled adopt k y) h = tt
     kept (turnB commit) c x (seen second j z) (filled commit k y) h =
@@ -162,35 +153,58 @@ module _ {F : Type 0} (o : Order F) where
     pub clean : (t : Turn) (x : F) (a : Seen F) (r : Register F)
         → Clean t x (see o t a r) → Clean t x a × Harmless t x r
     unfolding see add
-    clean t x a empty h = (h, harmless-empty t x)
-    clean turnM x a (filled f k y) h = (tt, tt)
-    clean turnA x nothing (filled f k y) h = (tt, λ z e. cc)
-    clean turnA x (seen first j z) (filled f k y) h = go (o .same z y) refl h
-      where
-        go : (t : Bool) → o .same z y ≡ t → Clean turnA x (seen (cond t first second) j (larger o z y))
-            → (z ≡ x) × ((w : F) → y ≡ w → w ≡ x)
-        go true e h =
-            let d : z ≡ y = sameIs z y e in
-            let l : larger o z y ≡ z = larger-is (λ (w : F). w ≡ z) z y refl (sym d) in
-            (cc, λ w p. cc)
-        go false e h = absurd h
+    clean t x a empty h = (h, tt)
+    clean turnM x nothing (filled f k y) h = (tt, tt)
+    clean turnM x (seen g j z) (filled f k y) h = (tt, tt)
+    clean turnA x nothing (filled f k y) h = (tt, h)
+    clean turnA x (seen first j z) (filled f k y) h =
+        cond-case (λ (g : Grade). Clean turnA x (seen g j (larger o z y)) → (z ≡ x) × (y ≡ x)) (o .same z y) _ _
+        (λ e h. (let l : larger o z y ≡ z = larger-is (λ (w : F). w ≡ z) z y refl (sym (sameIs z y e)) in
+        (cc, cc (sameIs z y e)))) (λ e h. absurd h) h
     clean turnA x (seen second j z) (filled f k y) h = absurd h
     clean turnA x (seen third j z) (filled f k y) h = absurd h
-    clean (turnB adopt) x nothing (filled adopt k y) h = (tt, adopt≢commit)
+    clean (turnB adopt) x nothing (filled adopt k y) h = (tt, refl)
     clean (turnB adopt) x nothing (filled commit k y) h = absurd h
-    clean (turnB adopt) x (seen first j z) (filled adopt k y) h = (tt, adopt≢commit)
+    clean (turnB adopt) x (seen first j z) (filled adopt k y) h = (tt, refl)
     clean (turnB adopt) x (seen first j z) (filled commit k y) h = absurd h
     clean (turnB adopt) x (seen second j z) (filled adopt k y) h = absurd h
-    clean (turnB adopt) x (seen second j z) (filled commit k y) h = absurd (go (o .same z y) h)
-      where
-        go : (t : Bool) → Clean (turnB adopt) x (seen (cond t second third) j z) → ⊥
-        go true h = h
-        go false h = h
+    clean (turnB adopt) x (seen second j z) (filled commit k y) h =
+        absurd (cond-case (λ (g : Grade). Clean (turnB adopt) x (seen g j z) → ⊥) (o .same z y) _ _
+        (λ e h. h) (λ e h. h) h)
     clean (turnB adopt) x (seen third j z) (filled f k y) h = absurd h
     clean (turnB commit) x nothing (filled adopt k y) h = absurd h
-    clean (turnB commit) x nothing (filled commit k y) h = (tt, λ e. adopt≢commit (sym e))
+    clean (turnB commit) x nothing (filled commit k y) h = (tt, (refl, h))
     clean (turnB commit) x (seen first j z) (filled adopt k y) h = absurd h
     clean (turnB commit) x (seen first j z) (filled commit k y) h = absurd h
     clean (turnB commit) x (seen second j z) (filled adopt k y) h = absurd h
-    clean (turnB commit) x (seen second j z) (filled commit k y) h = (tt, λ e. adopt≢commit (sym e))
+    clean (turnB commit) x (seen second j z) (filled commit k y) h =
+        cond-case (λ (g : Grade). Clean (turnB commit) x (seen g j z) → (z ≡ x) × ((commit ≡ commit) × (y ≡ x)))
+        (o .same z y) _ _ (λ e h. (h, (refl, sym (sameIs z y e) ∙ h))) (λ e h. absurd h) h
     clean (turnB commit) x (seen third j z) (filled f k y) h = absurd h
+
+  -- The other way: a harmless register leaves a clean collect clean.
+  pub stays-clean : (sameRefl : (x : F) → o .same x x ≡ true) (t : Turn) (x : F) (a : Seen F) (r : Register F)
+      → Clean t x a → Harmless t x r → Clean t x (see o t a r)
+  unfolding see add
+  stays-clean sameRefl t x a empty h q = h
+  stays-clean sameRefl turnM x nothing (filled f k y) h q = tt
+  stays-clean sameRefl turnM x (seen g j z) (filled f k y) h q =
+      cond-case (λ (a : Seen F). Clean turnM x a) (pairAbove o k y j z) _ _ (λ e. tt) (λ e. tt)
+  stays-clean sameRefl turnA x nothing (filled f k y) h q = q
+  stays-clean sameRefl turnA x (seen first j z) (filled f k y) h q =
+      let e : o .same z y ≡ true = cc (sameRefl x) in
+      rw e (larger-is (λ (w : F). w ≡ x) z y h q)
+  stays-clean sameRefl turnA x (seen second j z) (filled f k y) h q = absurd h
+  stays-clean sameRefl turnA x (seen third j z) (filled f k y) h q = absurd h
+  stays-clean sameRefl (turnB adopt) x nothing (filled adopt k y) h q = tt
+  stays-clean sameRefl (turnB adopt) x (seen first j z) (filled adopt k y) h q = tt
+  stays-clean sameRefl (turnB adopt) x (seen second j z) (filled adopt k y) h q = absurd h
+  stays-clean sameRefl (turnB adopt) x (seen third j z) (filled adopt k y) h q = absurd h
+  stays-clean sameRefl (turnB adopt) x a (filled commit k y) h q = absurd (adopt≢commit (sym q))
+  stays-clean sameRefl (turnB commit) x a (filled adopt k y) h q = absurd (adopt≢commit (q .0))
+  stays-clean sameRefl (turnB commit) x nothing (filled commit k y) h q = q .1
+  stays-clean sameRefl (turnB commit) x (seen first j z) (filled commit k y) h q = absurd h
+  stays-clean sameRefl (turnB commit) x (seen second j z) (filled commit k y) h q =
+      let e : o .same z y ≡ true = cc (sameRefl x, q .1) in
+      rw e h
+  stays-clean sameRefl (turnB commit) x (seen third j z) (filled commit k y) h q = absurd h

@@ -1,6 +1,6 @@
 -- What is said of one register, and of what a collect has seen so far. Relies on the listing's values alone; the facts
 -- about one read and every clause of the invariant are stated in these words.
-use mathlib.Core.Path.{_≡_}
+use mathlib.Core.Path.{_≡_, sym, _∙_}
 use Prim.Native.Nat.{ℕ, _≤_}
 use native.Mathlib.Omega.{arith}
 use Rattle.model.specs.Listing.{Flag, adopt, commit, Register, empty, filled, Turn, turnM, turnA, turnB, first, second, third, Seen, nothing, seen, Array, inM, inA, inB}
@@ -51,43 +51,55 @@ module _ {F : Type 0} where
   -- what a collect shows once it has read such a register: in m an island of at least c; in A only x, or several
   -- figures; in B the station's own flag, alone or beside others
   abbrev pub Brought : Turn → ℕ → F → Seen F → Type 0
-  Brought turnM c x nothing = ⊥
+  Brought t c x nothing = ⊥
   Brought turnM c x (seen g k y) = c ≤ k
-  Brought turnA c x nothing = ⊥
   Brought turnA c x (seen first k y) = y ≡ x
   Brought turnA c x (seen second k y) = Unit {0}
   Brought turnA c x (seen third k y) = Unit {0}
-  Brought (turnB adopt) c x nothing = ⊥
   Brought (turnB adopt) c x (seen first k y) = Unit {0}
   Brought (turnB adopt) c x (seen second k y) = ⊥
   Brought (turnB adopt) c x (seen third k y) = Unit {0}
-  Brought (turnB commit) c x nothing = ⊥
   Brought (turnB commit) c x (seen first k y) = ⊥
   Brought (turnB commit) c x (seen second k y) = y ≡ x
   Brought (turnB commit) c x (seen third k y) = Unit {0}
 
-  -- nothing met so far speaks against x in A, against the flag in B
+  -- nothing met so far speaks against x in A, against adopting in B, against committing x in B
   abbrev pub Clean : Turn → F → Seen F → Type 0
-  Clean turnM x a = Unit {0}
-  Clean turnA x nothing = Unit {0}
+  Clean t x nothing = Unit {0}
+  Clean turnM x (seen g k y) = Unit {0}
   Clean turnA x (seen first k y) = y ≡ x
   Clean turnA x (seen second k y) = ⊥
   Clean turnA x (seen third k y) = ⊥
-  Clean (turnB adopt) x nothing = Unit {0}
   Clean (turnB adopt) x (seen first k y) = Unit {0}
   Clean (turnB adopt) x (seen second k y) = ⊥
   Clean (turnB adopt) x (seen third k y) = ⊥
-  Clean (turnB commit) x nothing = Unit {0}
   Clean (turnB commit) x (seen first k y) = ⊥
-  Clean (turnB commit) x (seen second k y) = Unit {0}
+  Clean (turnB commit) x (seen second k y) = y ≡ x
   Clean (turnB commit) x (seen third k y) = ⊥
 
+  -- a register is empty, or has Q of its mark, island and figure
+  abbrev pub Holds : (Flag → ℕ → F → Type 0) → Register F → Type 0
+  Holds Q empty = Unit {0}
+  Holds Q (filled f k y) = Q f k y
+
   -- the register does not speak against it either
+  abbrev pub Agrees : Turn → F → Flag → ℕ → F → Type 0
+  Agrees turnM x f k y = Unit {0}
+  Agrees turnA x f k y = y ≡ x
+  Agrees (turnB adopt) x f k y = f ≡ adopt
+  Agrees (turnB commit) x f k y = (f ≡ commit) × (y ≡ x)
+
   abbrev pub Harmless : Turn → F → Register F → Type 0
-  Harmless turnM x r = Unit {0}
-  Harmless turnA x r = (y : F) → Says r y → y ≡ x
-  Harmless (turnB adopt) x r = Marked commit r → ⊥
-  Harmless (turnB commit) x r = Marked adopt r → ⊥
+  Harmless t x r = Holds (Agrees t x) r
+
+  pub harmless-says : (x z : F) (r : Register F) → Harmless turnA x r → Says r z → z ≡ x
+  harmless-says x z empty h s = absurd s
+  harmless-says x z (filled f k y) h s = sym s ∙ h
+
+  pub harmless-marked : (e f : Flag) (x : F) (r : Register F) → Harmless (turnB e) x r → Marked f r → f ≡ e
+  harmless-marked e f x empty h m = absurd m
+  harmless-marked adopt f x (filled g k y) h m = sym m ∙ h
+  harmless-marked commit f x (filled g k y) h m = sym m ∙ h .0
 
   pub marked-filled : (f : Flag) (r : Register F) → Marked f r → Filled r
   marked-filled f empty h = h

@@ -110,7 +110,7 @@ module _ {F : Type 0} (n : ℕ) {f : ℕ → Cell F} (i : ℕ) (v : F) (near : i
       passes j d m (passing q) = absurd q
       passes j d m (past q) =
           let b : j < n = filled-near (h .own j) d (marked-filled adopt (f j .register (inB d)) m) in
-          passing (refl, q, omega arith, tt)
+          passing (refl, q, omega arith, shown)
 
   -- A station that met adopts only spoils its island: it met no commit up to anyone, so nobody may decide past it.
   spoils : (c : ℕ) (x : F) (p k : ℕ) (y : F) → f i .station ≡ active v (reading (turnB adopt) c x p (seen first k y))

@@ -1,68 +1,82 @@
--- What a collect has seen once it has read the registers of an array in order, and how a property of that is had from
--- the single reads. Relies on the listing; what the collects of m, A and B end with, and the station alone, rely on it.
-use mathlib.Core.Path.{_≡_, refl, subst}
+-- What a collect has seen once it has read the registers of an array in order, for any kind of register: how a property
+-- of that is had from the single reads, and the facts about one read carried over the whole collect.
+-- Relies on the listing and on those facts; what the collects of m, A and B end with, and the station alone, rely on it.
+use mathlib.Core.Path.{_≡_, subst}
+use mathlib.Core.Bool.{true}
+use mathlib.Core.Logic.{_⊎_, ⊎-elim}
 use Prim.Native.Nat.{ℕ, zero, suc, _<_}
 use native.Mathlib.Decide.{ℕ-discrete}
 use native.Mathlib.Omega.{arith}
-use Rattle.model.specs.Listing.{Order, Flag, Register, filled, Turn, Grade, Seen, nothing, seen, see}
-use Rattle.model.proofs.Listing.Collect.{Something, add-sees, seen-stays}
+use Rattle.model.specs.Listing.{Order, Flag, commit, Register, Turn, turnB, Seen, nothing, array, see}
+use Rattle.model.proofs.Agreement.Registers.{Says, Marked, Figure, Best, Met, Left, Brought, Clean, Harmless}
+use Rattle.model.proofs.Agreement.Reads.{located, met, clean, stays-clean}
+use Rattle.model.proofs.Agreement.Reads.{kept as read-keeps, brought as read-brings}
 
-module _ {F : Type 0} where
-  -- what was seen, if anything, has Q of its grade, island and figure
-  unfoldable pub IfSeen : (Grade → ℕ → F → Type 0) → Seen F → Type 0
-  IfSeen Q nothing = Unit
-  IfSeen Q (seen g k y) = Q g k y
+module _ {F : Type 0} (o : Order F) (t : Turn) (r : ℕ → Register F) where
+  -- after the registers 0 to p - 1
+  unfoldable pub collected : ℕ → Seen F
+  collected zero = nothing
+  collected (suc p) = see o t (collected p) (r p)
 
-  -- something was seen, and has Q
-  unfoldable pub HasSeen : (Grade → ℕ → F → Type 0) → Seen F → Type 0
-  HasSeen Q nothing = ⊥
-  HasSeen Q (seen g k y) = Q g k y
+  -- A property that each read keeps holds at the end.
+  kept : (P : Seen F → Type 0) → P nothing → (n : ℕ)
+      → ((p : ℕ) → p < n → (a : Seen F) → P a → P (see o t a (r p)))
+      → P (collected n)
+  unfolding collected
+  kept P start zero keep = start
+  kept P start (suc n) keep = keep n (omega arith) (collected n) (kept P start n (λ p l. keep p (omega arith)))
 
-  -- what was seen, taken apart
-  pub record Found (Q : Grade → ℕ → F → Type 0) (a : Seen F) : Type 0 where
-    pub grade : Grade
-    pub island : ℕ
-    pub figure : F
-    pub what : a ≡ seen grade island figure
-    pub fact : Q grade island figure
+  -- A property that one read brings, whatever was seen before it, and each read keeps, holds at the end.
+  brought : (P : Seen F → Type 0) (n j : ℕ) → j < n
+      → ((a : Seen F) → P (see o t a (r j)))
+      → ((p : ℕ) (a : Seen F) → P a → P (see o t a (r p)))
+      → P (collected n)
+  unfolding collected
+  brought P zero j l bring keep = absurd (omega arith)
+  brought P (suc n) j l bring keep = by (ℕ-discrete j n) (λ b. brought P n j b bring keep)
+    where
+      by : Dec (j ≡ n) → (j < n → P (collected n)) → P (see o t (collected n) (r n))
+      by (yes e) before = subst (λ (k : ℕ). P (see o t (collected n) (r k))) e (bring (collected n))
+      by (no ne) before = keep n (collected n) (before (omega arith))
 
-  pub found : (Q : Grade → ℕ → F → Type 0) (a : Seen F) → HasSeen Q a → Found Q a
-  unfolding HasSeen
-  found Q nothing q = absurd q
-  found Q (seen g k y) q = record { grade = g; island = k; figure = y; what = refl; fact = q }
+  -- A property that nothing seen does not have, and that a read brings only from a register with S: one had S.
+  from : (P : Seen F → Type 0) (S : Register F → Type 0) → (P nothing → ⊥)
+      → ((a : Seen F) (z : Register F) → P (see o t a z) → P a ⊎ S z)
+      → (n : ℕ) → P (collected n) → (j : ℕ) × (j < n) × S (r j)
+  from P S none one n =
+      kept (λ (a : Seen F). P a → (j : ℕ) × (j < n) × S (r j)) (λ h. absurd (none h)) n
+      (λ p l a before h. ⊎-elim before (λ (s : S (r p)). (p, l, s)) (one a (r p) h))
 
-  module _ (o : Order F) (t : Turn) (r : ℕ → Register F) where
-    -- after the registers 0 to p - 1
-    unfoldable pub collected : ℕ → Seen F
-    collected zero = nothing
-    collected (suc p) = see o t (collected p) (r p)
+  module _ (n : ℕ) where
+    -- Every figure stood in a register.
+    pub best-from : (c k : ℕ) (y : F) → Best (array t c) (collected n) k y
+        → (j : ℕ) × (j < n) × Figure (array t c) (r j) k y
+    best-from c k y =
+        from (λ (a : Seen F). Best (array t c) a k y) (λ (z : Register F). Figure (array t c) z k y) (λ h. h)
+        (λ a z. located o t c a z k y) n
 
-    -- A property that each read keeps holds at the end.
-    pub kept : (P : Seen F → Type 0) → P nothing → (n : ℕ)
-        → ((p : ℕ) → p < n → (a : Seen F) → P a → P (see o t a (r p)))
-        → P (collected n)
-    unfolding collected
-    kept P start zero keep = start
-    kept P start (suc n) keep = keep n (omega arith) (collected n) (kept P start n (λ p l. keep p (omega arith)))
+    -- Where all registers are harmless, the collect ends clean.
+    pub all-clean : ((x : F) → o .same x x ≡ true) → (x : F) → ((j : ℕ) → j < n → Harmless t x (r j))
+        → Clean t x (collected n)
+    all-clean sameRefl x all =
+        kept (Clean t x) tt n (λ p l a h. stays-clean o sameRefl t x a (r p) h (all p l))
 
-    -- A property that one read brings, whatever was seen before it, and each read keeps, holds at the end.
-    pub brought : (P : Seen F → Type 0) (n j : ℕ) → j < n
-        → ((a : Seen F) → P (see o t a (r j)))
-        → ((p : ℕ) (a : Seen F) → P a → P (see o t a (r p)))
-        → P (collected n)
-    unfolding collected
-    brought P zero j l bring keep = absurd (omega arith)
-    brought P (suc n) j l bring keep = by (ℕ-discrete j n) (λ b. brought P n j b bring keep)
-      where
-        by : Dec (j ≡ n) → (j < n → P (collected n)) → P (see o t (collected n) (r n))
-        by (yes e) before = subst (λ (k : ℕ). P (see o t (collected n) (r k))) e (bring (collected n))
-        by (no ne) before = keep n (collected n) (before (omega arith))
+    module _ (sameIs : (x y : F) → o .same x y ≡ true → x ≡ y) (j : ℕ) (below : j < n) (c : ℕ) (x : F) where
+      -- What stands in a register that was passed is shown.
+      pub shown : Left t c x (r j) → Brought t c x (collected n)
+      shown left =
+          brought (Brought t c x) n j below
+          (λ a. read-brings o sameIs t c x a (r j) left) (λ p a. read-keeps o sameIs t c x a (r p))
 
-  module _ (o : Order F) where
-    -- A collect that passed a filled register has seen something.
-    pub has-seen : (t : Turn) (r : ℕ → Register F) (n j : ℕ) → j < n
-        → (f : Flag) (k : ℕ) (y : F) → r j ≡ filled f k y
-        → Something (collected o t r n)
-    unfolding see
-    has-seen t r n j l f k y e =
-        brought o t r Something n j l (λ a. rw e (add-sees o t a f k y)) (λ p a. seen-stays o t a (r p))
+      -- One register that is not harmless, and the collect is not clean.
+      pub spoilt : (Harmless t x (r j) → ⊥) → Clean t x (collected n) → ⊥
+      spoilt bad =
+          brought (λ (a : Seen F). Clean t x a → ⊥) n j below
+          (λ a h. bad (clean o sameIs t x a (r j) h .1)) (λ p a ne h. ne (clean o sameIs t x a (r p) h .0))
+
+module _ {F : Type 0} (o : Order F) (e : Flag) (r : ℕ → Register F) (n : ℕ) where
+  -- The commit that a collect of B keeps stood in a register.
+  pub met-from : (y : F) → Met (collected o (turnB e) r n) y → (j : ℕ) × (j < n) × (Marked commit (r j) × Says (r j) y)
+  met-from y =
+      from o (turnB e) r (λ (a : Seen F). Met a y) (λ (z : Register F). Marked commit z × Says z y) (λ h. h)
+      (λ a z. met o e a z y) n

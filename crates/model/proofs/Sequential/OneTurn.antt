@@ -8,7 +8,7 @@ use native.Mathlib.Omega.{arith}
 use Rattle.model.specs.Listing.{Order, adopt, empty, filled, turnM, turnA, Stage, writing, has-decided, idle, active, decided, Array, inM, inA, inB}
 use Rattle.model.proofs.Agreement.State.{State, initial, put, put-same, put-other, sameArray, putWritten}
 use Rattle.model.proofs.Sequential.Turns.{Ended, turn}
-use Rattle.model.proofs.Sequential.Registers.{Registers, Holds, all-put, two-stations, write, Apart, apart-write}
+use Rattle.model.proofs.Sequential.Registers.{Registers, all-put, two-stations, write, Apart, apart-write}
 use Rattle.model.proofs.Sequential.Alone.{loops, alone, proposing-alone}
 use Rattle.model.proofs.Sequential.Between.{OnZero, UpToOne, OnlyLow, Low, High, Between, only-low-m, low-m, high-m, low-after, high-first, high-after}
 use Rattle.model.proofs.Sequential.Pass.{run, Sent, pass-m, pass-two-figures, pass-beside-adopt, pass-agreed}
@@ -71,7 +71,7 @@ module _ {F : Type 0} where
     unfolding putWritten sameArray put
     high-turn fuel c x f h d =
         let s : Sent o n K i below w (st .station) (UpToOne v) 1 (loops n 2 fuel) c x f =
-        pass-m o n K i below w (st .station) (UpToOne v) (loops n 2 fuel) c x f
+        pass-m o n K i below w (st .station) sameIs (UpToOne v) (loops n 2 fuel) c x f
         (h .m) (h .who) (h .below) adopt 1 v (h .inM1) in
         let one : s .island ≡ 1 = omega arith in
         rw (s .goes, one, s .fact .1 one) (high-agreed fuel _ h (apart-write i _ f inM _ d))
@@ -90,10 +90,10 @@ module _ {F : Type 0} where
             let ne : i ≡ h .who → ⊥ = two-stations (f (inA 0)) i (h .who) adopt 0 v blank (h .inA0) in
             let f₁ : Registers F = write (inA 0) i (filled adopt 0 y) f in
             let (z, goes) =
-            pass-two-figures o n K i below w (st .station) sameIs sameRefl v (loops n 4 fuel) 0 f y other
+            pass-two-figures o n K i below w (st .station) sameIs v (loops n 4 fuel) 0 f y other
             (h .who) (h .below) ne (h .inA0) in
             let goes₁ =
-            pass-beside-adopt o n K i below w (st .station) (loops n 3 fuel) 0 f₁ v z two (h .only .b)
+            pass-beside-adopt o n K i below w (st .station) sameIs (loops n 3 fuel) 0 f₁ v z two (h .only .b)
             (h .who) (h .below) ne (h .inB0) in
             let d₁ : Apart i (st .register) f₁ = apart-write i _ f (inA 0) _ d in
             rw (goes, goes₁)
@@ -106,7 +106,7 @@ module _ {F : Type 0} where
         let f : Registers F = st .register in
         let low : Low n v (write inM i (filled adopt 0 w) f) = low-m n v i f w h in
         let s : Sent o n K i below w (st .station) OnZero 0 (loops n 5 fuel) 0 w f =
-        pass-m o n K i below w (st .station) OnZero (loops n 5 fuel) 0 w f
+        pass-m o n K i below w (st .station) sameIs OnZero (loops n 5 fuel) 0 w f
         (low .only .m) i below adopt 0 w (put-same i _ (f inM)) in
         let d : Apart i f (write inM i (filled adopt 0 w) f) = apart-write i f f inM _ (λ a j ne. refl) in
         rw (s .goes, s .fact) (low-carried fuel two _ (fresh .blank (inA 0)) low d (s .figure))
@@ -134,7 +134,7 @@ module _ {F : Type 0} where
     -- The first turn decides its own proposal.
     pub first-turn : (fuel : ℕ) → 3 * (n + 1) ≤ fuel → (i : ℕ) → i < n → (v : F)
         → Decides n v i v initial (turn o n K fuel i v initial)
-    unfolding turn initial Holds
+    unfolding turn initial
     first-turn fuel l i below v =
         let f : Registers F = initial .register in
         let Q : ℕ → F → Type 0 = λ k y. (k ≡ 0) × (y ≡ v) in
@@ -143,7 +143,7 @@ module _ {F : Type 0} where
         let blank : OnlyLow n v f =
         record { m = λ j l. tt; a = λ j l. tt; b = λ j l. tt; emptyA = λ j l. tt; emptyB = λ j l. tt } in
         let s : Sent o n K i below v (initial .station) Q 0 (loops n 2 rest) 0 v f =
-        pass-m o n K i below v (initial .station) Q (loops n 2 rest) 0 v f
+        pass-m o n K i below v (initial .station) sameIs Q (loops n 2 rest) 0 v f
         (all-put n (λ e. Q) i adopt 0 v (f inM) (refl, refl) (λ j l. tt)) i below adopt 0 v (put-same i _ (f inM)) in
         let d : Apart i f (write inM i (filled adopt 0 v) f) = apart-write i f f inM _ (λ a j ne. refl) in
         rw (proposing-alone i v initial, enough, s .goes, s .fact .0, s .fact .1)

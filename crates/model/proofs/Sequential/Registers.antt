@@ -1,5 +1,5 @@
 -- Predicates of the registers of an array, and what a write by one station changes of them.
--- Relies on the state; what a collect sees and the states between turns rely on it.
+-- Relies on the state and on the words for registers; what a collect sees and the states between turns rely on it.
 use mathlib.Core.Path.{_≡_}
 use mathlib.Core.Bool.{Bool, true, false, cond, _&&_}
 use mathlib.Core.Option.{some}
@@ -7,8 +7,9 @@ use Prim.Native.Nat.{ℕ, _<_}
 use native.Mathlib.Omega.{arith}
 use lib.Dec.{eqb}
 use borrow.Author.Tests.{ne-eqb}
-use Rattle.model.specs.Listing.{Flag, commit, Register, empty, filled, Array}
+use Rattle.model.specs.Listing.{Flag, commit, Register, empty, filled, turnA, turnB, Array}
 use Rattle.model.proofs.Basics.Tests.{cond-case}
+use Rattle.model.proofs.Agreement.Registers.{Holds, Agrees}
 use Rattle.model.proofs.Agreement.State.{put, sameArray, array-self, putWritten}
 
 -- a choice of two has what both have
@@ -19,25 +20,22 @@ abbrev pub Registers : Type 0 → Type 0
 Registers F = Array → ℕ → Register F
 
 module _ {F : Type 0} where
-  -- a register is empty, or has Q of its mark, island and figure
-  unfoldable pub Holds : (Flag → ℕ → F → Type 0) → Register F → Type 0
-  Holds Q empty = Unit
-  Holds Q (filled f k y) = Q f k y
-
   -- the first n registers of an array
   abbrev pub All : ℕ → (Flag → ℕ → F → Type 0) → (ℕ → Register F) → Type 0
   All n Q r = (j : ℕ) → j < n → Holds Q (r j)
 
-  -- filled with v; filled with a commit of v
+  -- filled with v, as A agrees to it; filled with a commit of v, as B does; with v if with a commit
   abbrev pub Figure : F → Flag → ℕ → F → Type 0
-  Figure v f k y = y ≡ v
+  Figure v = Agrees turnA v
 
   abbrev pub Commit : F → Flag → ℕ → F → Type 0
-  Commit v f k y = (f ≡ commit) × (y ≡ v)
+  Commit v = Agrees (turnB commit) v
+
+  abbrev pub IfCommit : F → Flag → ℕ → F → Type 0
+  IfCommit v f k y = f ≡ commit → y ≡ v
 
   pub all-map : (n : ℕ) (Q S : Flag → ℕ → F → Type 0) → ((f : Flag) (k : ℕ) (y : F) → Q f k y → S f k y)
       → (r : ℕ → Register F) → All n Q r → All n S r
-  unfolding Holds
   all-map n Q S g r all j l = one (r j) (all j l)
     where
       one : (z : Register F) → Holds Q z → Holds S z
@@ -47,7 +45,7 @@ module _ {F : Type 0} where
   -- one more register with Q
   pub all-put : (n : ℕ) (Q : Flag → ℕ → F → Type 0) (i : ℕ) (f : Flag) (k : ℕ) (y : F) (r : ℕ → Register F)
       → Q f k y → All n Q r → All n Q (put i (filled f k y) r)
-  unfolding put Holds
+  unfolding put
   all-put n Q i f k y r q all j l = either (Holds Q) (eqb i j) q (all j l)
 
   -- an empty register and a filled one are of two stations
