@@ -1,7 +1,7 @@
 -- A figure by its sign, as the code sees it: a figure that is not negative is its own number, and the complement of a
 -- negative one is its distance from −1. Relies on the model's `signed`; the proof of put_figure relies on it.
 use mathlib.Core.Path.{_≡_, refl, sym, ap, _∙_, subst}
-use mathlib.Core.Bool.{Bool, true, false}
+use mathlib.Core.Bool.{true, false}
 use mathlib.Core.List.{_++_}
 use Prim.Native.Nat.{ℕ, suc, _+_, _-_, _<_}
 use native.Mathlib.Numerals.{add-one}
@@ -11,10 +11,10 @@ use lib.IntN.{ℤ, pos, negsuc, natAbs}
 use lib.Signed.{ltZ, nonNeg}
 use mir.Syntax.{w32}
 use mir.Val.{toZ, ofZ, Fits, SFits}
-use mir.Facts.{toZ-ofZ}
 use mir.ValLaws.{toZ-pos}
 use borrow.Author.Tests.{ltb-true}
 use Rattle.model.specs.Show.{text, decimal, signed}
+use Rattle.model.proofs.Basics.Numbers.{sign}
 
 -- z is what the code casts: of a figure that is not negative the figure itself, and of another its complement
 pub record Plain (v z : ℤ) : Type 0 where
@@ -49,10 +49,6 @@ below-at (pos n) h e = absurd (omega (arith, ltb-true n 0 e))
 below-at (negsuc n) h e =
     let same : 4294967295 - (4294967296 - suc n) ≡ n = omega (arith, h .sfits) in
     below-from n _ (ap (toZ w32) same ∙ toZ-pos w32 n (omega (arith, h .sfits))) (omega (arith, h .sfits))
-
--- the code tests the number that it reads back from the bits
-sign : (v : ℤ) → SFits w32 v → (t : Bool) → ltZ (toZ w32 (ofZ w32 v)) (pos 0) ≡ t → ltZ v (pos 0) ≡ t
-sign v h t e = ap (λ (z : ℤ). ltZ z (pos 0)) (sym (toZ-ofZ h)) ∙ e
 
 module _ (v : ℤ) (h : SFits w32 v) where
   pub plain : ltZ (toZ w32 (ofZ w32 v)) (pos 0) ≡ false → Plain v (toZ w32 (ofZ w32 v))

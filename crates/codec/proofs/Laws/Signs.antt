@@ -1,7 +1,7 @@
 -- Two's complement at 32 bits: the casts of src/figures.rt keep their numbers, and four bytes are a figure.
 -- Relies on the laws on numbers of the crate model; the proofs of figures rely on it.
 use mathlib.Core.Path.{_≡_, sym, ap, _∙_, subst}
-use mathlib.Core.Bool.{Bool, true, false}
+use mathlib.Core.Bool.{true, false}
 use mathlib.Core.List.{List, [], _∷_}
 use Prim.Native.Nat.{ℕ, suc, _+_, _*_, _-_, _/_, _%_, _≤_}
 use native.Mathlib.Nat.{add-zero}
@@ -17,7 +17,7 @@ use mir.ValLaws.{toZ-pos}
 use borrow.Author.Tests.{ltb-true}
 use Rattle.model.specs.Bytes.{byte, number, digits, part}
 use Rattle.model.specs.Figure.{Figure, figure, figureBytes}
-use Rattle.model.proofs.Basics.Numbers.{figure-fits}
+use Rattle.model.proofs.Basics.Numbers.{figure-fits, sign}
 use Rattle.model.proofs.Basics.Parts.{listed, part-listed}
 
 -- a cast to u32 of a number that is not negative
@@ -30,10 +30,6 @@ unsigned-le z n e h = subst (λ (y : ℤ). natAbs y ≤ 4294967295) (sym e) h
 pub bits-in : (v : ℤ) → SFits w32 v → ofZ w32 v ≤ 4294967295
 bits-in (pos n) h = omega (arith, h .sfits)
 bits-in (negsuc n) h = omega arith
-
--- the code tests the number that it reads back from the bits
-sign : (v : ℤ) → SFits w32 v → (t : Bool) → ltZ (toZ w32 (ofZ w32 v)) (pos 0) ≡ t → ltZ v (pos 0) ≡ t
-sign v h t e = ap (λ (z : ℤ). ltZ z (pos 0)) (sym (toZ-ofZ h)) ∙ e
 
 plain : (v : ℤ) → SFits w32 v → ltZ v (pos 0) ≡ false → toZ w32 (ofZ w32 v) ≡ pos (ofZ w32 v)
 plain (pos n) h e = toZ-pos w32 n (h .sfits)

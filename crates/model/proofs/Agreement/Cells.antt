@@ -59,7 +59,7 @@ module _ {F : Type 0} where
       go true = ap (λ (t : Bool). cond t r (f b i)) (eq-eqb i i refl)
       go false = refl
 
-  written-elsewhere : (a : Array) (i : ℕ) (w : Option (Register F)) (f : Array → ℕ → Register F) (b : Array) (j : ℕ)
+  pub written-elsewhere : (a : Array) (i : ℕ) (w : Option (Register F)) (f : Array → ℕ → Register F) (b : Array) (j : ℕ)
       → (i ≡ j → ⊥) → putWritten a i w f b j ≡ f b j
   unfolding putWritten
   written-elsewhere a i none f b j d = refl

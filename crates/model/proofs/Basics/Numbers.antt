@@ -1,5 +1,5 @@
 -- Numbers of several bytes, and figures, as bytes and back. One law each, for any count of bytes.
--- Relies on Bytes and Figure; the laws on registers and records rely on it.
+-- Relies on Bytes, Figure and Tests; the laws on registers and records rely on it.
 use mathlib.Core.Path.{_≡_, refl, sym, ap, _∙_, subst}
 use mathlib.Core.Bool.{Bool, true, false}
 use mathlib.Core.List.{List, [], _∷_}
@@ -8,14 +8,15 @@ use native.Mathlib.Nat.{div-add-mod', pow-suc, div-lt-iff-lt-mul, add-mul-mod-se
 use native.Mathlib.Omega.{arith}
 use lib.Dec.{T, ltb, eqb→eq, eqb-refl, lit<, ltb→lt}
 use lib.IntN.{pos, negsuc}
-use lib.Signed.{mag}
+use lib.Signed.{mag, ltZ}
 use lib.ListN.{length}
 use mir.Syntax.{w32}
 use mir.Val.{toZ, ofZ, hbits, SFits, sel}
 use mir.Facts.{toZ-ofZ, ofZ-toZ, fits-ofZ}
 use borrow.Author.Tests.{ltb-false}
 use Rattle.model.specs.Bytes.{number, digits}
-use Rattle.model.specs.Figure.{Figure, figure, figureBytes, sameFigure}
+use Rattle.model.specs.Figure.{Figure, figure, figureBytes, figures, sameFigure}
+use Rattle.model.proofs.Basics.Tests.{true-T, T-true}
 
 -- every element is a byte
 unfoldable pub Bytes : List ℕ → Type 0
@@ -83,6 +84,19 @@ unfolding sameFigure
 same-refl (pos a) = eqb-refl a
 same-refl (negsuc a) = eqb-refl a
 
+-- the same, in the words of the order
+pub same-law : (x y : Figure) → figures .same x y ≡ true → x ≡ y
+unfolding figures
+same-law x y e = same-is x y (true-T (sameFigure x y) e)
+
+pub self-law : (x : Figure) → figures .same x x ≡ true
+unfolding figures
+self-law x = T-true (sameFigure x x) (same-refl x)
+
 -- a figure in range is the number of its bits
 pub landed : (v : Figure) → mag v < 2 ^ hbits w32 → toZ w32 (ofZ w32 v) ≡ v
 landed v f = toZ-ofZ (record { sfits = f })
+
+-- its sign is that of the number read back from its bits, which is the one that the code tests
+pub sign : (v : Figure) → SFits w32 v → (t : Bool) → ltZ (toZ w32 (ofZ w32 v)) (pos 0) ≡ t → ltZ v (pos 0) ≡ t
+sign v h t e = ap (λ (z : Figure). ltZ z (pos 0)) (sym (toZ-ofZ h)) ∙ e

@@ -23,6 +23,10 @@ pub and-i : (a b : Bool) → T a → T b → T (a && b)
 and-i true b s t = t
 and-i false b s t = s
 
+pub and-false : (a : Bool) → a && false ≡ false
+and-false true = refl
+and-false false = refl
+
 pub or-case : (a b : Bool) → T (a || b) → T a ⊎ T b
 or-case true b t = inl tt
 or-case false b t = inr t

@@ -1,5 +1,5 @@
 -- Encoding after decoding is the identity on sound registers and records, bytes being bytes.
--- Relies on Numbers, Splices and soundness's clauses; it says that a sound part has one meaning and one form.
+-- Relies on Numbers, Splices, Good and soundness's clauses; it says that a sound part has one meaning and one form.
 use mathlib.Core.Path.{_≡_, refl, sym, ap, _∙_, subst}
 use mathlib.Core.Bool.{Bool, false, cond, _&&_, _||_}
 use mathlib.Core.Logic.{⊎-elim}
@@ -21,6 +21,7 @@ use Rattle.model.proofs.Basics.Tests.{and-l, and-r, or-case, zeros-is, 
 use Rattle.model.proofs.Basics.Numbers.{Bytes, bytes-figure}
 use Rattle.model.proofs.Basics.Splices.{length-part}
 use Rattle.model.proofs.Basics.Parts.{listed, part-listed, part-join, part-whole, part-Bytes, part-zeros, zero-at}
+use Rattle.model.proofs.Board.Good.{best-island-fact, seen-fact}
 
 -- ---- registers
 
@@ -62,7 +63,7 @@ module _ (marks islands : ℕ) (low : marks ≤ 2) (r : List ℕ) (e : length r 
 -- ---- records
 
 module _ (r : List ℕ) (e : length r ≡ 24) (bytes : Bytes r) where
-  record-parts : r ≡ (byte r 0 ∷ byte r 1 ∷ byte r 2 ∷ byte r 3 ∷ byte r 4 ∷ byte r 5 ∷ byte r 6 ∷ byte r 7 ∷ []) ++ part 8 4 r ++ part 12 4 r ++ part 16 4 r ++ part 20 4 r
+  pub record-parts : r ≡ (byte r 0 ∷ byte r 1 ∷ byte r 2 ∷ byte r 3 ∷ byte r 4 ∷ byte r 5 ∷ byte r 6 ∷ byte r 7 ∷ []) ++ part 8 4 r ++ part 12 4 r ++ part 16 4 r ++ part 20 4 r
   unfolding listed
   record-parts =
       sym (part-whole r 24 e) ∙ part-join 0 20 4 r
@@ -73,7 +74,7 @@ module _ (r : List ℕ) (e : length r ≡ 24) (bytes : Bytes r) where
       ∙ ap (λ (l : List ℕ). l ++ part 12 4 r)
       (part-join 0 8 4 r ∙ ap (λ (l : List ℕ). l ++ part 8 4 r) (part-listed 0 8 r (omega arith)))))
 
-  figure-at : (at : ℕ) → at + 4 ≤ 24 → figureBytes (figure (part at 4 r)) ≡ part at 4 r
+  pub figure-at : (at : ℕ) → at + 4 ≤ 24 → figureBytes (figure (part at 4 r)) ≡ part at 4 r
   figure-at at h = bytes-figure (part at 4 r) (length-part at 4 r (omega arith)) (part-Bytes at 4 r bytes)
 
   -- the fields of a record one by one
@@ -149,17 +150,9 @@ module _ (n K phase : ℕ) (r : List ℕ) (t : T (fieldsSound n K phase r)) wher
   unfolding fieldsSound
   collect-fact = search (and-l, and-r) depth 12
 
-  island-zero-fact : T (bestIslandZero phase r)
-  unfolding fieldsSound
-  island-zero-fact = search (and-l, and-r) depth 12
-
   best-zero-fact : T (bestZero phase r)
   unfolding fieldsSound
   best-zero-fact = search (and-l, and-r) depth 12
-
-  seen-known-fact : T (seenKnown phase r)
-  unfolding fieldsSound
-  seen-known-fact = search (and-l, and-r) depth 12
 
 -- a phase outside the collects
 resting-parts : (n K phase : ℕ) (r : List ℕ) (e : length r ≡ 24) (bytes : Bytes r) → phase ≡ byte r 0 → T (fieldsSound n K phase r)
@@ -174,7 +167,7 @@ resting-parts n K phase r e bytes h t c m flag ef =
     zero-parts = subst (λ (b : Bool). T (b || (eqb (byte r 1) 0 && eqb (byte r 3) 0 && zeros (part 16 4 r)))) c (collect-fact n K phase r t)
 
     island : T (eqb (byte r 4) 0)
-    island = subst (λ (b : Bool). T (b || eqb (byte r 4) 0)) m (island-zero-fact n K phase r t)
+    island = subst (λ (b : Bool). T (b || eqb (byte r 4) 0)) m (best-island-fact n K phase r t)
 
 -- a phase in a collect
 reading-parts : (n K phase : ℕ) (r : List ℕ) (e : length r ≡ 24) (bytes : Bytes r) → phase ≡ byte r 0 → T (fieldsSound n K phase r)
@@ -208,13 +201,13 @@ module _ (n K : ℕ) (r : List ℕ) (e : length r ≡ 24) (bytes : Bytes r) wher
   phase-canon zero h t = idle-form ∙ sym (zeros-is r (idle-fact n K 0 r t) ∙ ap (λ (k : ℕ). replicate k 0) e)
   phase-canon (suc zero) h t = resting-parts n K 1 r e bytes h t refl refl 0 (sym (eqb→eq (byte r 5) 0 (flag-fact n K 1 r t)))
   phase-canon (suc (suc zero)) h t =
-      reading-parts n K 2 r e bytes h t (omega (arith, leb→le (byte r 3) 1 (seen-known-fact n K 2 r t))) 0 (sym (eqb→eq (byte r 5) 0 (flag-fact n K 2 r t)))
+      reading-parts n K 2 r e bytes h t (omega (arith, leb→le (byte r 3) 1 (seen-fact n K 2 r t))) 0 (sym (eqb→eq (byte r 5) 0 (flag-fact n K 2 r t)))
   phase-canon (suc (suc (suc zero))) h t = resting-parts n K 3 r e bytes h t refl refl 0 (sym (eqb→eq (byte r 5) 0 (flag-fact n K 3 r t)))
   phase-canon (suc (suc (suc (suc zero)))) h t =
-      reading-parts n K 4 r e bytes h t (omega (arith, leb→le (byte r 3) 2 (seen-known-fact n K 4 r t))) 0 (sym (eqb→eq (byte r 5) 0 (flag-fact n K 4 r t)))
+      reading-parts n K 4 r e bytes h t (omega (arith, leb→le (byte r 3) 2 (seen-fact n K 4 r t))) 0 (sym (eqb→eq (byte r 5) 0 (flag-fact n K 4 r t)))
   phase-canon (suc (suc (suc (suc (suc zero))))) h t = resting-parts n K 5 r e bytes h t refl refl _ (flag-byte (byte r 5) (flag-fact n K 5 r t))
   phase-canon (suc (suc (suc (suc (suc (suc zero)))))) h t =
-      reading-parts n K 6 r e bytes h t (leb→le (byte r 3) 3 (seen-known-fact n K 6 r t)) _ (flag-byte (byte r 5) (flag-fact n K 6 r t))
+      reading-parts n K 6 r e bytes h t (leb→le (byte r 3) 3 (seen-fact n K 6 r t)) _ (flag-byte (byte r 5) (flag-fact n K 6 r t))
   phase-canon (suc (suc (suc (suc (suc (suc (suc zero))))))) h t = resting-parts n K 7 r e bytes h t refl refl 0 (sym (eqb→eq (byte r 5) 0 (flag-fact n K 7 r t)))
   phase-canon (suc (suc (suc (suc (suc (suc (suc (suc zero)))))))) h t = resting-parts n K 8 r e bytes h t refl refl 0 (sym (eqb→eq (byte r 5) 0 (flag-fact n K 8 r t)))
   phase-canon (suc (suc (suc (suc (suc (suc (suc (suc (suc k))))))))) h t = absurd (above-eight k (known-fact n K (suc (suc (suc (suc (suc (suc (suc (suc (suc k))))))))) r t))

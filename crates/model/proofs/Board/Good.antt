@@ -53,11 +53,11 @@ module _ (n K phase : ℕ) (r : List ℕ) (t : T (fieldsSound n K phase r)) wher
   unfolding fieldsSound bestInside
   best-fact = ltb→lt (byte r 4) K (search (and-l, and-r) depth 12)
 
-  best-island-fact : T (bestIslandZero phase r)
+  pub best-island-fact : T (bestIslandZero phase r)
   unfolding fieldsSound
   best-island-fact = search (and-l, and-r) depth 12
 
-  seen-fact : T (seenKnown phase r)
+  pub seen-fact : T (seenKnown phase r)
   unfolding fieldsSound
   seen-fact = search (and-l, and-r) depth 12
 

@@ -1,21 +1,21 @@
 -- What one allowed call does to one station: nothing, its proposal, or its move; and to its register of m.
 -- Relies on Lists; what a whole list did to a station relies on it.
-use mathlib.Core.Path.{_≡_, refl, sym, ap, _∙_, subst}
-use mathlib.Core.Bool.{Bool, true, false, cond, _&&_}
+use mathlib.Core.Path.{_≡_, sym, ap, _∙_, subst}
+use mathlib.Core.Bool.{true}
 use mathlib.Core.List.{List}
-use mathlib.Core.Option.{Option, none, some}
+use mathlib.Core.Option.{none}
 use Prim.Native.Nat.{ℕ, suc, _-_, _≤_, _<_}
 use native.Mathlib.Decide.{ℕ-discrete}
 use native.Mathlib.Omega.{arith}
-use borrow.Author.Tests.{ne-eqb}
 use Rattle.model.specs.Figure.{Figure, figures}
-use Rattle.model.specs.Listing.{Register, Stage, idle, active, Array, inM, accepted, proposed, placeArray}
+use Rattle.model.specs.Listing.{Register, Stage, idle, active, inM, accepted, proposed, placeArray}
 use Rattle.model.specs.Layout.{stationOf}
 use Rattle.model.specs.Calls.{propose, step}
 use Rattle.model.specs.AnyList.{Call, proposing, stepping, called, Proposes, Steps}
 use Rattle.model.proofs.Listing.Collect.{Filled}
 use Rattle.model.proofs.Listing.Going.{Going}
-use Rattle.model.proofs.Agreement.State.{State, put-same, put-other, sameArray, putWritten, proposing as proposingIn, moveOf, moving}
+use Rattle.model.proofs.Agreement.Cells.{written-elsewhere}
+use Rattle.model.proofs.Agreement.State.{State, put-same, put-other, proposing as proposingIn, moveOf, moving}
 use Rattle.model.proofs.Agreement.Steps.{stepped-fills}
 use Rattle.model.proofs.Bridge.View.{view, view-station}
 use Rattle.model.proofs.Bridge.Single.{ProposeSim, StepSim}
@@ -34,20 +34,9 @@ pub data Along (n K : ℕ) (c : Call) (b : List ℕ) (j : ℕ) : Type 0 where
       → stationOf n K j (called c b) ≡ active v (moveOf figures n K j s (view n K b) .stage)
       → step (suc j) b .answer ≡ moveOf figures n K j s (view n K b) .answer → Filled (mOf n K j (called c b)) → Along n K c b j
 
-and-false : (t : Bool) → t && false ≡ false
-and-false true = refl
-and-false false = refl
-
 -- a station's number is one more than its index
 number : (i : ℕ) → 1 ≤ i → i ≡ suc (i - 1)
 number i p = omega arith
-
-unwritten : (a : Array) (i : ℕ) (w : Option (Register Figure)) (f : Array → ℕ → Register Figure) (c : Array) (j : ℕ) → (i ≡ j → ⊥)
-    → putWritten a i w f c j ≡ f c j
-unfolding putWritten
-unwritten a i none f c j h = refl
-unwritten a i (some r) f c j h =
-    ap (λ (t : Bool). cond (sameArray a c && t) r (f c j)) (ne-eqb i j h) ∙ ap (λ (t : Bool). cond t r (f c j)) (and-false (sameArray a c))
 
 module _ (n K : ℕ) (c : Call) (b : List ℕ) (h : Held n K b) where
   station-after : {st : State Figure} (j : ℕ) → j < n → view n K (called c b) ≡ st → stationOf n K j (called c b) ≡ st .station j
@@ -89,7 +78,7 @@ module _ (n K : ℕ) (c : Call) (b : List ℕ) (h : Held n K b) where
     unfolding moving mOf
     other-moves j own f =
         stays (station-after j own moved ∙ put-other (i - 1) _ (view n K b .station) j f ∙ view-station n K b j own)
-        (m-after j moved ∙ unwritten (placeArray (s .stage)) (i - 1) _ (view n K b .register) inM j f)
+        (m-after j moved ∙ written-elsewhere (placeArray (s .stage)) (i - 1) _ (view n K b .register) inM j f)
 
   pub along : Change n K c b → (j : ℕ) → j < n → Along n K c b j
   along (same e) j own = stays (ap (stationOf n K j) e) (ap (mOf n K j) e)

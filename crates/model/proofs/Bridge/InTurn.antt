@@ -1,17 +1,15 @@
 -- Stations in turn on bytes, each from the board that the one before left: all decide the figure of the first.
 -- Relies on Until and the theorem of one turn; the order that demand 3 asks for relies on it.
 use mathlib.Core.Path.{_≡_, refl, sym, ap, _∙_, subst, subst₂}
-use mathlib.Core.Bool.{true}
 use mathlib.Core.List.{List, [], _∷_}
 use Prim.Native.Nat.{ℕ, _+_, _*_, _-_, _≤_, _<_}
 use native.Mathlib.Omega.{arith}
-use Rattle.model.specs.Figure.{Figure, figures, sameFigure}
+use Rattle.model.specs.Figure.{Figure, figures}
 use Rattle.model.specs.Listing.{idle, decided}
 use Rattle.model.specs.Layout.{stationOf}
 use Rattle.model.specs.Calls.{propose}
 use Rattle.model.specs.AnyList.{Seat, turn, EachDecides}
-use Rattle.model.proofs.Basics.Tests.{T-true, true-T}
-use Rattle.model.proofs.Basics.Numbers.{same-is, same-refl}
+use Rattle.model.proofs.Basics.Numbers.{same-law, self-law}
 use Rattle.model.proofs.Board.Codec.{Fits}
 use Rattle.model.proofs.Agreement.State.{State, initial}
 use Rattle.model.proofs.Sequential.Turns.{stepUntil}
@@ -22,14 +20,6 @@ use Rattle.model.proofs.Sequential.Sequential.{Distinct, AllFresh, init
 use Rattle.model.proofs.Bridge.View.{view, view-station}
 use Rattle.model.proofs.Bridge.Single.{ProposeSim, propose-sim}
 use Rattle.model.proofs.Bridge.Until.{Ready, Ends, propose-ready, proposes, until-sim}
-
-pub same-law : (x y : Figure) → figures .same x y ≡ true → x ≡ y
-unfolding figures
-same-law x y e = same-is x y (true-T (sameFigure x y) e)
-
-pub self-law : (x : Figure) → figures .same x x ≡ true
-unfolding figures
-self-law x = T-true (sameFigure x x) (same-refl x)
 
 -- a seat of a board with n stations, with a figure of 32 bits
 pub record Proper (n : ℕ) (s : Seat) : Type 0 where

@@ -9,12 +9,11 @@ use mathlib.Core.Option.{none, some}
 use Prim.Native.Nat.{ℕ, _-_, _<_}
 use lib.Dec.{lit<}
 use Rattle.model.specs.Bytes.{byte}
-use Rattle.model.specs.Figure.{Figure, figures, sameFigure}
+use Rattle.model.specs.Figure.{Figure, figures}
 use Rattle.model.specs.Listing.{accepted}
 use Rattle.model.specs.Calls.{stations, islands, propose, step}
 use Rattle.model.specs.AnyList.{Call, laying, proposing, stepping, called, Allowed, AllAllowed}
-use Rattle.model.proofs.Basics.Tests.{true-T}
-use Rattle.model.proofs.Basics.Numbers.{same-is}
+use Rattle.model.proofs.Basics.Numbers.{same-law}
 use Rattle.model.proofs.Board.Codec.{Fits}
 use Rattle.model.proofs.Calls.CallsKeep.{propose-keeps, step-keeps, propose-head, step-head}
 use Rattle.model.proofs.Calls.Refusals.{Board, refusal-case}
@@ -50,10 +49,6 @@ changed n K (stepping i) b h a = go (accepted (step i b .answer)) refl
     go : (t : Bool) → accepted (step i b .answer) ≡ t → Change n K (stepping i) b
     go true e = moves i refl e (subst₂ (λ (m L : ℕ). StepSim m L i b (step i b)) (h .isN) (h .isK) (step-sim i b (h .board) e)) refl
     go false e = same (step-refused i b e)
-
-same-law : (x y : Figure) → figures .same x y ≡ true → x ≡ y
-unfolding figures
-same-law x y e = same-is x y (true-T (sameFigure x y) e)
 
 -- the invariant along one call
 inv-along : (n K : ℕ) (c : Call) (b : List ℕ) → Held n K b → Change n K c b → Inv n (view n K (called c b))

@@ -14,7 +14,7 @@ use Rattle.model.specs.Layout.{boardLength}
 use Rattle.model.specs.Sound.{sound}
 use Rattle.model.specs.Calls.{After, Refusal, unless, shapeRefusal, stations, islands, boardRefusal, stationRefusal, unlessRefused, stepOn, step}
 use Rattle.model.specs.Listing.{refused}
-use Rattle.model.proofs.Basics.Tests.{and-l, and-r, and-i, eq-T}
+use Rattle.model.proofs.Basics.Tests.{and-l, and-r, and-i, and-false, eq-T}
 use Rattle.model.proofs.Board.SoundFacts.{SoundBoard, sound-facts, facts-sound}
 
 pub some-none : {A : Type 0} {X : Type 0} (k : A) → some k ≡ none → X
@@ -88,11 +88,7 @@ outside-low : (low high x : ℕ) → x < low → leb low x && leb x high ≡ fal
 outside-low low high x h = ap (λ (t : Bool). t && leb x high) (lt-leb low x h)
 
 outside-high : (low high x : ℕ) → high < x → leb low x && leb x high ≡ false
-outside-high low high x h = ap (λ (t : Bool). leb low x && t) (lt-leb x high h) ∙ none-left (leb low x)
-  where
-    none-left : (t : Bool) → t && false ≡ false
-    none-left true = refl
-    none-left false = refl
+outside-high low high x h = ap (λ (t : Bool). leb low x && t) (lt-leb x high h) ∙ and-false (leb low x)
 
 -- 7 to 10 as the code meets them: each fails after those before it have passed.
 module _ (n K : ℕ) (b : List ℕ) (later : Refusal) where

@@ -1,16 +1,16 @@
 -- Predicates of the registers of an array, and what a write by one station changes of them.
 -- Relies on the state and on the words for registers; what a collect sees and the states between turns rely on it.
-use mathlib.Core.Path.{_≡_}
-use mathlib.Core.Bool.{Bool, true, false, cond, _&&_}
+use mathlib.Core.Path.{_≡_, _∙_}
+use mathlib.Core.Bool.{Bool, cond, _&&_}
 use mathlib.Core.Option.{some}
 use Prim.Native.Nat.{ℕ, _<_}
 use native.Mathlib.Omega.{arith}
 use lib.Dec.{eqb}
-use borrow.Author.Tests.{ne-eqb}
 use Rattle.model.specs.Listing.{Flag, commit, Register, empty, filled, turnA, turnB, Array}
 use Rattle.model.proofs.Basics.Tests.{cond-case}
 use Rattle.model.proofs.Agreement.Registers.{Holds, Agrees}
-use Rattle.model.proofs.Agreement.State.{put, sameArray, array-self, putWritten}
+use Rattle.model.proofs.Agreement.Cells.{written-elsewhere}
+use Rattle.model.proofs.Agreement.State.{put, array-self, putWritten}
 
 -- a choice of two has what both have
 pub either : {A : Type 0} (P : A → Type 0) (t : Bool) {x y : A} → P x → P y → P (cond t x y)
@@ -66,9 +66,4 @@ module _ {F : Type 0} where
   Apart i f g = (a : Array) (j : ℕ) → (i ≡ j → ⊥) → g a j ≡ f a j
 
   pub apart-write : (i : ℕ) (f g : Registers F) (a : Array) (r : Register F) → Apart i f g → Apart i f (write a i r g)
-  unfolding putWritten
-  apart-write i f g a r h b j ne = rw (ne-eqb i j ne) (other (sameArray a b))
-    where
-      other : (t : Bool) → cond (t && false) r (g b j) ≡ f b j
-      other true = h b j ne
-      other false = h b j ne
+  apart-write i f g a r h b j ne = written-elsewhere a i (some r) g b j ne ∙ h b j ne

@@ -15,10 +15,6 @@ pub yes : (r x : Bool) → r ≡ x → not r ≡ false → x ≡ true
 yes true x e h = sym e
 yes false x e h = absurd (let z : _≡_ {A = ℕ} 0 1 = cc in omega arith)
 
-pub and-false : (a : Bool) → a && false ≡ false
-and-false true = refl
-and-false false = refl
-
 pub and-true : (a : Bool) → a ≡ a && true
 and-true true = refl
 and-true false = refl

@@ -1,5 +1,5 @@
 -- A record of a board by the tests that the code makes: the bytes without a field, the fields, the own register.
--- Relies on the layout and on codec's laws of parts; the proofs of records rely on it.
+-- Relies on the layout, the model's laws of a record's parts and codec's laws of reads; the proofs of records rely on it.
 use mathlib.Core.Path.{_≡_, sym, ap, _∙_, subst}
 use mathlib.Core.Bool.{Bool, true, false, _&&_}
 use mathlib.Core.List.{List, [], _∷_, _++_}
@@ -18,13 +18,13 @@ use Rattle.model.specs.Figure.{figure, figureBytes}
 use Rattle.model.specs.Layout.{boardLength, recordAt, recordOf, readRecord, layRecord, recordValue, station}
 use Rattle.model.specs.Sound.{phaseKnown, positionInside, islandInside, bestInside, flagKnown, restZero, idleZero, collectZero, bestIslandZero, bestZero, seenKnown}
 use Rattle.model.specs.Sound.{fieldsSound, ownWritten, ownPassed, recordSound}
-use Rattle.model.proofs.Basics.Numbers.{Bytes, bytes-figure}
-use Rattle.model.proofs.Basics.Tests.{true-T}
-use Rattle.model.proofs.Basics.Parts.{listed, part-listed, part-join, part-whole, part-Bytes, part-zeros, zero-at}
+use Rattle.model.proofs.Basics.Numbers.{Bytes}
+use Rattle.model.proofs.Basics.Tests.{and-false, true-T}
+use Rattle.model.proofs.Basics.Parts.{part-Bytes, part-zeros, zero-at}
 use Rattle.model.proofs.Basics.Splices.{length-part}
+use Rattle.model.proofs.Board.Canon.{record-parts, figure-at}
 use Rattle.model.proofs.Board.Places.{record-inside}
 use Rattle.codec.proofs.Laws.Reads.{part-part}
-use Rattle.soundness.proofs.Laws.Chains.{and-false}
 
 -- ---- one clause that fails
 module _ (n K phase : ℕ) (r : List ℕ) where
@@ -68,28 +68,17 @@ all-bytes (x ∷ xs) h = (h 0 .fits, all-bytes xs (λ j. h (suc j)))
 
 -- a record whose bytes without a field are zero is what its fields lay
 module _ (r : List ℕ) (e : length r ≡ 24) (bytes : Bytes r) (pair : T (zeros (part 6 2 r))) (word : T (zeros (part 20 4 r))) where
-  laid-parts : r ≡ (byte r 0 ∷ byte r 1 ∷ byte r 2 ∷ byte r 3 ∷ byte r 4 ∷ byte r 5 ∷ byte r 6 ∷ byte r 7 ∷ []) ++ part 8 4 r ++ part 12 4 r ++ part 16 4 r ++ part 20 4 r
-  unfolding listed
-  laid-parts =
-      sym (part-whole r 24 e) ∙ part-join 0 20 4 r
-      ∙ ap (λ (l : List ℕ). l ++ part 20 4 r)
-      (part-join 0 16 4 r
-      ∙ ap (λ (l : List ℕ). l ++ part 16 4 r)
-      (part-join 0 12 4 r
-      ∙ ap (λ (l : List ℕ). l ++ part 12 4 r)
-      (part-join 0 8 4 r ∙ ap (λ (l : List ℕ). l ++ part 8 4 r) (part-listed 0 8 r (omega arith)))))
-
-  figure-at : (at : ℕ) → at + 4 ≤ 24 → part at 4 r ≡ figureBytes (figure (part at 4 r))
-  figure-at at h = sym (bytes-figure (part at 4 r) (length-part at 4 r (omega arith)) (part-Bytes at 4 r bytes))
+  from-figure : (at : ℕ) → at + 4 ≤ 24 → part at 4 r ≡ figureBytes (figure (part at 4 r))
+  from-figure at h = sym (figure-at r e bytes at h)
 
   laid : r ≡ layRecord (readRecord r)
   unfolding layRecord readRecord
   laid =
-      laid-parts
+      record-parts r e bytes
       ∙ (λ i.
       (byte r 0 ∷ byte r 1 ∷ byte r 2 ∷ byte r 3 ∷ byte r 4 ∷ byte r 5 ∷ zero-at 6 2 r (omega arith) pair 0 (lit< tt) i
       ∷ zero-at 6 2 r (omega arith) pair 1 (lit< tt) i ∷ [])
-      ++ figure-at 8 (lit≤ tt) i ++ figure-at 12 (lit≤ tt) i ++ figure-at 16 (lit≤ tt) i ++ part-zeros 20 4 r (omega arith) word i)
+      ++ from-figure 8 (lit≤ tt) i ++ from-figure 12 (lit≤ tt) i ++ from-figure 16 (lit≤ tt) i ++ part-zeros 20 4 r (omega arith) word i)
 
 -- ---- the record of station index i, which stands at `at`
 pub record Placed (n k i at : ℕ) (b : List ℕ) : Type 0 where

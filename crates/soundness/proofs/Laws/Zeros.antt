@@ -18,7 +18,8 @@ use Rattle.model.specs.Bytes.{byte, number, part, zeros}
 use Rattle.model.specs.Figure.{figureBytes}
 use Rattle.model.proofs.Basics.Numbers.{number-digits}
 use Rattle.model.proofs.Basics.Parts.{listed, part-listed, part-join}
-use Rattle.soundness.proofs.Laws.Chains.{and-false, and-true}
+use Rattle.model.proofs.Basics.Tests.{and-false}
+use Rattle.soundness.proofs.Laws.Chains.{and-true}
 
 and-assoc : (a b c : Bool) → a && (b && c) ≡ a && b && c
 and-assoc true b c = refl
