@@ -10,6 +10,7 @@ use lib.Dec.{eqb, ltb}
 use borrow.Author.Tests.{ltb-true, ltb-false, eqb-true}
 use Rattle.model.specs.Listing.{Order, Flag, adopt, commit, Register, empty, filled, Turn, turnM, turnA, turnB, Grade, first, second, third, Seen, nothing, seen, inM, array, entry, larger, pairAbove, add, see}
 use Rattle.model.proofs.Basics.Tests.{cond-case}
+use Rattle.model.proofs.Listing.Collect.{larger-is}
 use Rattle.model.proofs.Agreement.Registers.{Says, Marked, Figure, Best, Met, Left, Brought, Clean, Harmless, adopt≢commit}
 
 first-or-second : (a b c : Bool) → (a || (b && c)) ≡ true → (a ≡ true) ⊎ (b ≡ true)
@@ -41,10 +42,6 @@ module _ {F : Type 0} (o : Order F) where
   not-above-low : (k : ℕ) (y : F) (j : ℕ) (x : F) → pairAbove o k y j x ≡ false → k ≤ j
   unfolding pairAbove
   not-above-low k y j x e = ltb-false j k (not-first (ltb j k) (eqb j k && o .above y x) e)
-
-  larger-is : (P : F → Type 0) (x y : F) → P x → P y → P (larger o x y)
-  unfolding larger
-  larger-is P x y h k = cond-case P (o .above y x) y x (λ e. k) (λ e. h)
 
   one-of : {A : Type 0} (x y z : F) → A → larger o x y ≡ z → (A × (x ≡ z)) ⊎ (A × (y ≡ z))
   unfolding larger
@@ -105,7 +102,7 @@ module _ {F : Type 0} (o : Order F) where
         (λ e. omega (arith, above-high k y j z e)) (λ e. h)
     kept turnA c x (seen first j z) (filled f k y) h =
         cond-case (λ (g : Grade). Brought turnA c x (seen g j (larger o z y))) (o .same z y) _ _
-        (λ e. larger-is (λ (w : F). w ≡ x) z y h (cc (sameIs z y e))) (λ e. tt)
+        (λ e. larger-is o (λ (w : F). w ≡ x) z y h (cc (sameIs z y e))) (λ e. tt)
     kept turnA c x (seen second j z) (filled f k y) h = tt
     kept turnA c x (seen third j z) (filled f k y) h = tt
     kept (turnB adopt) c x (seen first j z) (filled adopt k y) h = tt
@@ -129,7 +126,7 @@ module _ {F : Type 0} (o : Order F) where
     brought turnA c x nothing (filled f k y) h = h
     brought turnA c x (seen first j z) (filled f k y) h =
         cond-case (λ (g : Grade). Brought turnA c x (seen g j (larger o z y))) (o .same z y) _ _
-        (λ e. larger-is (λ (w : F). w ≡ x) z y (cc (sameIs z y e)) h) (λ e. tt)
+        (λ e. larger-is o (λ (w : F). w ≡ x) z y (cc (sameIs z y e)) h) (λ e. tt)
     brought turnA c x (seen second j z) (filled f k y) h = tt
     brought turnA c x (seen third j z) (filled f k y) h = tt
     brought (turnB e) c x a empty h = absurd (h .0)
@@ -159,7 +156,7 @@ module _ {F : Type 0} (o : Order F) where
     clean turnA x nothing (filled f k y) h = (tt, h)
     clean turnA x (seen first j z) (filled f k y) h =
         cond-case (λ (g : Grade). Clean turnA x (seen g j (larger o z y)) → (z ≡ x) × (y ≡ x)) (o .same z y) _ _
-        (λ e h. (let l : larger o z y ≡ z = larger-is (λ (w : F). w ≡ z) z y refl (sym (sameIs z y e)) in
+        (λ e h. (let l : larger o z y ≡ z = larger-is o (λ (w : F). w ≡ z) z y refl (sym (sameIs z y e)) in
         (cc, cc (sameIs z y e)))) (λ e h. absurd h) h
     clean turnA x (seen second j z) (filled f k y) h = absurd h
     clean turnA x (seen third j z) (filled f k y) h = absurd h
@@ -193,7 +190,7 @@ module _ {F : Type 0} (o : Order F) where
   stays-clean sameRefl turnA x nothing (filled f k y) h q = q
   stays-clean sameRefl turnA x (seen first j z) (filled f k y) h q =
       let e : o .same z y ≡ true = cc (sameRefl x) in
-      rw e (larger-is (λ (w : F). w ≡ x) z y h q)
+      rw e (larger-is o (λ (w : F). w ≡ x) z y h q)
   stays-clean sameRefl turnA x (seen second j z) (filled f k y) h q = absurd h
   stays-clean sameRefl turnA x (seen third j z) (filled f k y) h q = absurd h
   stays-clean sameRefl (turnB adopt) x nothing (filled adopt k y) h q = tt

@@ -1,18 +1,22 @@
--- One read of a collect, for any kind of register, any type of figures and any order on them: once something is seen it
--- stays so, a filled register brings something, and so the last read always leaves something seen.
--- Relies on the listing; that the calls keep a board sound relies on it.
+-- One read of a collect, for any kind of register, any type of figures and any order on them: its figure is one that it had
+-- or met, once something is seen it stays so, and so the last read always leaves something seen.
+-- Relies on the listing; that the calls keep a board sound, and the agreement's facts about one read, rely on it.
 use mathlib.Core.Path.{_≡_}
 use Prim.Native.Nat.{ℕ, _+_, _≤_, _<_}
 use native.Mathlib.Omega.{arith}
 use Rattle.model.specs.Listing.{Order, Flag, adopt, commit, Turn, turnM, turnA, turnB, first, second, third}
-use Rattle.model.specs.Listing.{Register, empty, filled, Seen, nothing, seen, entry, pairAbove, add, see}
+use Rattle.model.specs.Listing.{Register, empty, filled, Seen, nothing, seen, entry, larger, pairAbove, add, see}
 use Rattle.model.proofs.Basics.Tests.{cond-case}
 use Rattle.model.proofs.Board.Places.{Compared, lower, equal, higher, compared}
 
 module _ {F : Type 0} where
+  -- something was seen, and its figure has P
+  abbrev pub Shows : (F → Type 0) → Seen F → Type 0
+  Shows P nothing = ⊥
+  Shows P (seen g k y) = P y
+
   abbrev pub Something : Seen F → Type 0
-  Something nothing = ⊥
-  Something (seen g k y) = Unit {0}
+  Something a = Shows (λ (y : F). Unit {0}) a
 
   abbrev pub Filled : Register F → Type 0
   Filled empty = ⊥
@@ -26,21 +30,32 @@ module _ {F : Type 0} where
   entry-fills (turnB f) c x = tt
 
   module _ (o : Order F) where
-    pub add-sees : (t : Turn) (a : Seen F) (f : Flag) (k : ℕ) (y : F) → Something (add o t a f k y)
+    -- the larger of two figures is one of them
+    pub larger-is : (P : F → Type 0) (x y : F) → P x → P y → P (larger o x y)
+    unfolding larger
+    larger-is P x y h l = cond-case P (o .above y x) y x (λ e. l) (λ e. h)
+
+    -- What holds of the figure seen before, if any, and of the figure read holds of the figure seen after.
+    pub add-shows : (P : F → Type 0) (t : Turn) (a : Seen F) (f : Flag) (k : ℕ) (y : F)
+        → (Something a → Shows P a) → P y → Shows P (add o t a f k y)
     unfolding add
-    add-sees turnM nothing f k y = tt
-    add-sees turnM (seen g j x) f k y = cond-case Something (pairAbove o k y j x) (seen g k y) (seen g j x) (λ e. tt) (λ e. tt)
-    add-sees turnA nothing f k y = tt
-    add-sees turnA (seen first j x) f k y = tt
-    add-sees turnA (seen second j x) f k y = tt
-    add-sees turnA (seen third j x) f k y = tt
-    add-sees (turnB e) nothing adopt k y = tt
-    add-sees (turnB e) nothing commit k y = tt
-    add-sees (turnB e) (seen first j x) adopt k y = tt
-    add-sees (turnB e) (seen first j x) commit k y = tt
-    add-sees (turnB e) (seen second j x) adopt k y = tt
-    add-sees (turnB e) (seen second j x) commit k y = tt
-    add-sees (turnB e) (seen third j x) f k y = tt
+    add-shows P turnM nothing f k y h l = l
+    add-shows P turnM (seen g j x) f k y h l =
+        cond-case (Shows P) (pairAbove o k y j x) (seen g k y) (seen g j x) (λ e. l) (λ e. h tt)
+    add-shows P turnA nothing f k y h l = l
+    add-shows P turnA (seen first j x) f k y h l = larger-is P x y (h tt) l
+    add-shows P turnA (seen second j x) f k y h l = larger-is P x y (h tt) l
+    add-shows P turnA (seen third j x) f k y h l = larger-is P x y (h tt) l
+    add-shows P (turnB e) nothing adopt k y h l = l
+    add-shows P (turnB e) nothing commit k y h l = l
+    add-shows P (turnB e) (seen first j x) adopt k y h l = larger-is P x y (h tt) l
+    add-shows P (turnB e) (seen first j x) commit k y h l = l
+    add-shows P (turnB e) (seen second j x) adopt k y h l = h tt
+    add-shows P (turnB e) (seen second j x) commit k y h l = h tt
+    add-shows P (turnB e) (seen third j x) f k y h l = h tt
+
+    add-sees : (t : Turn) (a : Seen F) (f : Flag) (k : ℕ) (y : F) → Something (add o t a f k y)
+    add-sees t a f k y = add-shows (λ (z : F). Unit {0}) t a f k y (λ s. s) tt
 
     pub filled-sees : (t : Turn) (a : Seen F) (r : Register F) → Filled r → Something (see o t a r)
     unfolding see

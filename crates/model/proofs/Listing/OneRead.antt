@@ -12,6 +12,7 @@ use Rattle.model.specs.Sound.{ownSeen}
 use Rattle.model.proofs.Basics.Tests.{true-T, cond-case}
 use Rattle.model.proofs.Board.Codec.{Fits, FitsRegister, FitsSeen}
 use Rattle.model.proofs.Board.Good.{GoodSeen}
+use Rattle.model.proofs.Listing.Collect.{Shows, Something, add-shows}
 use Rattle.model.proofs.Listing.Order.{above-irrefl, above-trans, pair-irrefl, pair-trans}
 
 -- in m a filled register's island is below K; in A and B nothing is asked here
@@ -51,32 +52,22 @@ unfolding see
 see-good K t a empty h l = h
 see-good K t a (filled f k y) h l = add-good K t a f k y h l
 
--- ---- figures stay of 32 bits: each is copied or is one of two
+-- ---- figures stay of 32 bits
 
-larger-fits : (x y : Figure) → Fits x → Fits y → Fits (larger figures x y)
-unfolding larger
-larger-fits x y h l = cond-case Fits (figures .above y x) y x (λ e. l) (λ e. h)
+fits-shows : (a : Seen Figure) → FitsSeen a → Something a → Shows Fits a
+unfolding FitsSeen
+fits-shows nothing h s = absurd s
+fits-shows (seen g k y) h s = h
 
-add-fits : (t : Turn) (a : Seen Figure) (f : Flag) (k : ℕ) (y : Figure) → FitsSeen a → Fits y → FitsSeen (add figures t a f k y)
-unfolding FitsSeen add
-add-fits turnM nothing f k y h l = l
-add-fits turnM (seen g j x) f k y h l = cond-case FitsSeen (pairAbove figures k y j x) (seen g k y) (seen g j x) (λ e. l) (λ e. h)
-add-fits turnA nothing f k y h l = l
-add-fits turnA (seen first j x) f k y h l = larger-fits x y h l
-add-fits turnA (seen second j x) f k y h l = larger-fits x y h l
-add-fits turnA (seen third j x) f k y h l = larger-fits x y h l
-add-fits (turnB e) nothing adopt k y h l = l
-add-fits (turnB e) nothing commit k y h l = l
-add-fits (turnB e) (seen first j x) adopt k y h l = larger-fits x y h l
-add-fits (turnB e) (seen first j x) commit k y h l = l
-add-fits (turnB e) (seen second j x) adopt k y h l = h
-add-fits (turnB e) (seen second j x) commit k y h l = h
-add-fits (turnB e) (seen third j x) f k y h l = h
+shows-fits : (a : Seen Figure) → Shows Fits a → FitsSeen a
+unfolding FitsSeen
+shows-fits nothing h = absurd h
+shows-fits (seen g k y) h = h
 
 pub see-fits : (t : Turn) (a : Seen Figure) (r : Register Figure) → FitsSeen a → FitsRegister r → FitsSeen (see figures t a r)
 unfolding see FitsRegister
 see-fits t a empty h l = h
-see-fits t a (filled f k y) h l = add-fits t a f k y h l
+see-fits t a (filled f k y) h l = shows-fits _ (add-shows figures Fits t a f k y (fits-shows a h) l)
 
 -- ---- the station's own value, once seen, stays no higher than the best
 
