@@ -3,6 +3,7 @@
 -- Relies on Good, Collect and Order; Moves relies on it.
 use mathlib.Core.Path.{_≡_, refl, sym, subst}
 use mathlib.Core.Bool.{Bool, true, not}
+use mathlib.Core.Logic.{_↔_}
 use Prim.Native.Nat.{ℕ, _<_}
 use lib.Dec.{T, T-not, not-T}
 use Rattle.model.specs.Figure.{Figure, figures, above}
@@ -54,20 +55,15 @@ see-good K t a (filled f k y) h l = add-good K t a f k y h l
 
 -- ---- figures stay of 32 bits
 
-fits-shows : (a : Seen Figure) → FitsSeen a → Something a → Shows Fits a
+fits-shown : (a : Seen Figure) → FitsSeen a ↔ (Something a → Shows Fits a)
 unfolding FitsSeen
-fits-shows nothing h s = absurd s
-fits-shows (seen g k y) h s = h
-
-shows-fits : (a : Seen Figure) → Shows Fits a → FitsSeen a
-unfolding FitsSeen
-shows-fits nothing h = absurd h
-shows-fits (seen g k y) h = h
+fits-shown nothing = (λ h s. absurd s, λ h. tt)
+fits-shown (seen g k y) = (λ h s. h, λ h. h tt)
 
 pub see-fits : (t : Turn) (a : Seen Figure) (r : Register Figure) → FitsSeen a → FitsRegister r → FitsSeen (see figures t a r)
 unfolding see FitsRegister
 see-fits t a empty h l = h
-see-fits t a (filled f k y) h l = shows-fits _ (add-shows figures Fits t a f k y (fits-shows a h) l)
+see-fits t a (filled f k y) h l = fits-shown _ .1 (λ s. add-shows figures Fits t a f k y (fits-shown a .0 h) l)
 
 -- ---- the station's own value, once seen, stays no higher than the best
 
