@@ -8,8 +8,7 @@ use lib.Dec.{eqb, leb}
 use lib.ListN.{length}
 use Rattle.model.specs.Bytes.{byte, splice}
 use Rattle.model.specs.Figure.{Figure, figures}
-use Rattle.model.specs.Listing.{Register, Stage, writing, reading, has-decided, is-spent, Station, idle, active}
-use Rattle.model.specs.Listing.{Answer, refused, accepted, Move, Array, placeArray, placeColumn, proposed, move}
+use Rattle.model.specs.Listing.{Register, Stage, writing, reading, has-decided, is-spent, Station, idle, active, Answer, refused, accepted, Move, Array, placeArray, placeColumn, proposed, move}
 use Rattle.model.specs.Layout.{boardLength, registerAt, recordAt, freshBoard, registerBytes, recordBytes, registerOf, stationOf}
 use Rattle.model.specs.Sound.{sound}
 
@@ -42,8 +41,7 @@ unfoldable pub islands : List ℕ → ℕ
 islands b = byte b 1
 
 unfoldable pub boardRefusal : List ℕ → Refusal → Refusal
-boardRefusal b later =
-    shapeRefusal (stations b) (islands b) b (unless (sound (stations b) (islands b) b) 11 later)
+boardRefusal b later = shapeRefusal (stations b) (islands b) b (unless (sound (stations b) (islands b) b) 11 later)
 
 -- "12. The station number is 0 or above n."
 unfoldable pub stationRefusal : (i : ℕ) → List ℕ → Refusal → Refusal
@@ -80,7 +78,7 @@ propose i v b =
     unlessRefused (boardRefusal b (stationRefusal i b (notIdle (stationAt i b)))) some b
     (record { answer = none; bytes = putStation (stations b) (islands b) (i - 1) (proposed v) b })
 
--- "14. The station to step is idle. 15. .. has unlessRefusedd. 16. .. is spent."
+-- "14. The station to step is idle. 15. The station to step has decided. 16. The station to step is spent."
 unfoldable pub notGoing : Station Figure → Refusal
 notGoing idle = some 14
 notGoing (active v (writing t c x)) = none

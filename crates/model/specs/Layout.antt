@@ -8,10 +8,7 @@ use Rattle.model.specs.declared.Record.{Record}
 use Rattle.model.specs.declared.Register as Fields
 use Rattle.model.specs.Bytes.{byte, part}
 use Rattle.model.specs.Figure.{Figure, figure, figureBytes}
-use Rattle.model.specs.Listing.{Turn, turnM, turnA, turnB, Grade, first, second, third, Array, inM, inA, inB}
-use Rattle.model.specs.Listing.{Register, empty, filled, Seen, nothing, seen}
-use Rattle.model.specs.Listing.{writing, reading, has-decided, is-spent, Station, idle, active}
-use Rattle.model.specs.Listing.{flagOf, flagNumber}
+use Rattle.model.specs.Listing.{Turn, turnM, turnA, turnB, Grade, first, second, third, Array, inM, inA, inB, Register, empty, filled, Seen, nothing, seen, writing, reading, has-decided, is-spent, Station, idle, active, flagOf, flagNumber}
 
 -- "Length is exactly 8 + 32n + 16nK"
 unfoldable pub boardLength : (n K : ℕ) → ℕ

@@ -119,14 +119,14 @@ module _ {F : Type 0} where
   unfoldable pub stay : Stage F → Answer F → Move F
   stay s a = record { stage = s; written = none; answer = a }
 
-  -- the collect of m ends: "c and carried become the best pair" (lines 26, 27); the collect of A: "commit if seen is 1,
-  -- else adopt; carried becomes best" (lines 7 to 9)
-  -- the collect of B: "Seen 2 gives decided" (lines 11, 12, 30); "otherwise it is adopt" (lines 13, 14, 28, 29), and the
-  -- listing ends "at island K − 1"
+  -- "Otherwise it is adopt: below island K − 1, adopted (c + 1, figure), with that c and phase 1; at island K − 1, spent
+  -- (c, figure)." (lines 13, 14, 28, 29)
   unfoldable pub onward : (K : ℕ) (c : ℕ) (x : F) → Move F
-  onward K c x =
-      cond (ltb (c + 1) K) (stay (writing turnM (c + 1) x) (adopted (c + 1) x)) (stay (is-spent c x) (spent c x))
+  onward K c x = cond (ltb (c + 1) K) (stay (writing turnM (c + 1) x) (adopted (c + 1) x)) (stay (is-spent c x) (spent c x))
 
+  -- The collect of m ends: "c and carried become the best pair" (lines 26, 27); the collect of A: "commit if seen is 1,
+  -- else adopt; carried becomes best" (lines 7 to 9); the collect of B: "carried becomes best. Seen 2 gives decided"
+  -- (lines 11, 12, 30).
   unfoldable pub finish : (K : ℕ) → Turn → (c : ℕ) → Grade → (k : ℕ) (y : F) → Move F
   finish K turnM c g k y = stay (writing turnA k y) (went k y)
   finish K turnA c first k y = stay (writing (turnB commit) c y) (marked (flagNumber commit) y)

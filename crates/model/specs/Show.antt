@@ -35,7 +35,7 @@ unfoldable pub signed : Figure → List ℕ
 signed (pos k) = decimal k
 signed (negsuc k) = text "-" ++ decimal (suc k)
 
--- " (i idle)", or the word with c and v
+-- the word with c and v: `going c v`, `decided c v` or `spent c v`
 unfoldable pub standing : (word : String) (c : ℕ) → Figure → List ℕ
 standing word c v = text word ++ text " " ++ decimal c ++ text " " ++ signed v
 

@@ -6,11 +6,8 @@ use Prim.Native.Nat.{ℕ}
 use lib.Dec.{eqb, leb, ltb}
 use Rattle.model.specs.Bytes.{byte, part, zeros, every, implies}
 use Rattle.model.specs.Figure.{Figure, figures, sameFigure}
-use Rattle.model.specs.Listing.{Turn, turnM, turnA, turnB, Seen, nothing, seen, Register, empty, filled}
-use Rattle.model.specs.Listing.{writing, reading, has-decided, is-spent, Station, idle, active}
-use Rattle.model.specs.Listing.{Array, inM, inA, inB, array, entry, pairAbove}
+use Rattle.model.specs.Listing.{Turn, turnM, turnA, turnB, Seen, nothing, seen, Register, empty, filled, writing, reading, has-decided, is-spent, Station, idle, active, Array, inM, inA, inB, array, entry, pairAbove, flagNumber}
 use Rattle.model.specs.Layout.{registerAt, registerOf, recordOf, station}
-use Rattle.model.specs.Listing.{flagNumber}
 
 -- "Head, 8 bytes: n, K, six zeros."
 unfoldable pub headSound : List ℕ → Bool
@@ -21,23 +18,12 @@ unfoldable pub registerSound : (marks islands : ℕ) → List ℕ → Bool
 registerSound marks islands r =
     cond (eqb (byte r 0) 0) (zeros r) (leb (byte r 0) marks && ltb (byte r 1) islands && zeros (part 2 2 r))
 
--- "Marks: m and A 1 written; B 1 adopt, 2 commit."
-unfoldable pub marksIn : Array → ℕ
-marksIn inM = 1
-marksIn (inA c) = 1
-marksIn (inB c) = 2
+unfoldable pub arraySound : (n marks islands : ℕ) → List ℕ → Array → Bool
+arraySound n marks islands b a = every n λ j. registerSound marks islands (part (registerAt n a j) 8 b)
 
--- "The island byte is below K in m and zero in A and B."
-unfoldable pub islandsIn : (K : ℕ) → Array → ℕ
-islandsIn K inM = K
-islandsIn K (inA c) = 1
-islandsIn K (inB c) = 1
-
-unfoldable pub arraySound : (n K : ℕ) → List ℕ → Array → Bool
-arraySound n K b a = every n λ j. registerSound (marksIn a) (islandsIn K a) (part (registerAt n a j) 8 b)
-
+-- "Marks: m and A 1 written; B 1 adopt, 2 commit. The island byte is below K in m and zero in A and B."
 unfoldable pub registersSound : (n K : ℕ) → List ℕ → Bool
-registersSound n K b = arraySound n K b inM && every K λ c. arraySound n K b (inA c) && arraySound n K b (inB c)
+registersSound n K b = arraySound n 1 K b inM && every K λ c. arraySound n 1 1 b (inA c) && arraySound n 2 1 b (inB c)
 
 -- The clauses on one record r of a board, at its phase, which is its byte 0.
 module _ (phase : ℕ) (r : List ℕ) where

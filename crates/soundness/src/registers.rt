@@ -49,7 +49,7 @@ pub fn row_sound(s: &[u8], start: usize, n: usize, marks: u8, islands: u8) -> bo
 // The rows A and B of each island.
 pub fn islands_sound(s: &[u8], n: usize, k: usize) -> bool
     requires { ⌜ (length (now s) ≡ boardLength n k) × (1 ≤ n) × (n ≤ 16) × (k ≤ 64) ⌝ }
-    ensures { λ r. ⌜ r ≡ every k (λ c. arraySound n k (now (s .entry)) (inA c) && arraySound n k (now (s .entry)) (inB c)) ⌝ }
+    ensures { λ r. ⌜ r ≡ every k (λ c. arraySound n 1 1 (now (s .entry)) (inA c) && arraySound n 2 1 (now (s .entry)) (inB c)) ⌝ }
 {
     let width = 8 * n;
     let mut start = 8 + width;

@@ -9,10 +9,21 @@ use lib.ListN.{length}
 use Rattle.model.specs.Bytes.{part, every}
 use Rattle.model.specs.Listing.{Array, inM, inA, inB}
 use Rattle.model.specs.Layout.{boardLength, registerAt, recordOf}
-use Rattle.model.specs.Sound.{headSound, registerSound, marksIn, islandsIn, arraySound, registersSound, recordSound, sound}
+use Rattle.model.specs.Sound.{headSound, registerSound, arraySound, registersSound, recordSound, sound}
 use Rattle.model.proofs.Basics.Tests.{and-l, and-r, and-i, every-at, every-all}
 use Rattle.model.proofs.Board.Places.{InBoard}
 use Rattle.model.proofs.Board.Boards.{registerPart}
+
+-- the marks and the islands that the registers of an array may hold
+unfoldable pub marksIn : Array → ℕ
+marksIn inM = 1
+marksIn (inA c) = 1
+marksIn (inB c) = 2
+
+unfoldable pub islandsIn : (K : ℕ) → Array → ℕ
+islandsIn K inM = K
+islandsIn K (inA c) = 1
+islandsIn K (inB c) = 1
 
 -- the test of a register's bytes, by its array
 unfoldable pub registerTest : (K : ℕ) → Array → List ℕ → Bool
@@ -31,30 +42,30 @@ pub record SoundBoard (n K : ℕ) (b : List ℕ) : Type 0 where
   pub registers : (a : Array) → InBoard K a → (j : ℕ) → j < n → T (registerTest K a (registerPart n a j b))
   pub records : (j : ℕ) → j < n → T (recordSound n K j b (recordOf n K j b))
 
-array-at : (n K : ℕ) (b : List ℕ) (a : Array) → T (arraySound n K b a) → (j : ℕ) → j < n → T (registerTest K a (registerPart n a j b))
+array-at : (n K : ℕ) (b : List ℕ) (a : Array) → T (arraySound n (marksIn a) (islandsIn K a) b a) → (j : ℕ) → j < n → T (registerTest K a (registerPart n a j b))
 unfolding arraySound registerTest registerPart
 array-at n K b a t j h = every-at n (λ (i : ℕ). registerSound (marksIn a) (islandsIn K a) (part (registerAt n a i) 8 b)) t j h
 
-array-all : (n K : ℕ) (b : List ℕ) (a : Array) → ((j : ℕ) → j < n → T (registerTest K a (registerPart n a j b))) → T (arraySound n K b a)
+array-all : (n K : ℕ) (b : List ℕ) (a : Array) → ((j : ℕ) → j < n → T (registerTest K a (registerPart n a j b))) → T (arraySound n (marksIn a) (islandsIn K a) b a)
 unfolding arraySound registerTest registerPart
 array-all n K b a f = every-all n (λ (i : ℕ). registerSound (marksIn a) (islandsIn K a) (part (registerAt n a i) 8 b)) f
 
-arrays-at : (n K : ℕ) (b : List ℕ) → T (registersSound n K b) → (a : Array) → InBoard K a → T (arraySound n K b a)
-unfolding registersSound InBoard
-arrays-at n K b t inM h = and-l (arraySound n K b inM) (every K (λ (c : ℕ). arraySound n K b (inA c) && arraySound n K b (inB c))) t
+arrays-at : (n K : ℕ) (b : List ℕ) → T (registersSound n K b) → (a : Array) → InBoard K a → T (arraySound n (marksIn a) (islandsIn K a) b a)
+unfolding registersSound InBoard marksIn islandsIn
+arrays-at n K b t inM h = and-l (arraySound n 1 K b inM) (every K (λ (c : ℕ). arraySound n 1 1 b (inA c) && arraySound n 2 1 b (inB c))) t
 arrays-at n K b t (inA c) h =
-    and-l (arraySound n K b (inA c)) (arraySound n K b (inB c))
-    (every-at K (λ (k : ℕ). arraySound n K b (inA k) && arraySound n K b (inB k)) (and-r (arraySound n K b inM) _ t) c h)
+    and-l (arraySound n 1 1 b (inA c)) (arraySound n 2 1 b (inB c))
+    (every-at K (λ (k : ℕ). arraySound n 1 1 b (inA k) && arraySound n 2 1 b (inB k)) (and-r (arraySound n 1 K b inM) _ t) c h)
 arrays-at n K b t (inB c) h =
-    and-r (arraySound n K b (inA c)) (arraySound n K b (inB c))
-    (every-at K (λ (k : ℕ). arraySound n K b (inA k) && arraySound n K b (inB k)) (and-r (arraySound n K b inM) _ t) c h)
+    and-r (arraySound n 1 1 b (inA c)) (arraySound n 2 1 b (inB c))
+    (every-at K (λ (k : ℕ). arraySound n 1 1 b (inA k) && arraySound n 2 1 b (inB k)) (and-r (arraySound n 1 K b inM) _ t) c h)
 
-arrays-all : (n K : ℕ) (b : List ℕ) → ((a : Array) → InBoard K a → T (arraySound n K b a)) → T (registersSound n K b)
-unfolding registersSound InBoard
+arrays-all : (n K : ℕ) (b : List ℕ) → ((a : Array) → InBoard K a → T (arraySound n (marksIn a) (islandsIn K a) b a)) → T (registersSound n K b)
+unfolding registersSound InBoard marksIn islandsIn
 arrays-all n K b f =
-    and-i (arraySound n K b inM) (every K (λ (c : ℕ). arraySound n K b (inA c) && arraySound n K b (inB c))) (f inM tt)
-    (every-all K (λ (c : ℕ). arraySound n K b (inA c) && arraySound n K b (inB c))
-    (λ (c : ℕ) (h : c < K). and-i (arraySound n K b (inA c)) (arraySound n K b (inB c)) (f (inA c) h) (f (inB c) h)))
+    and-i (arraySound n 1 K b inM) (every K (λ (c : ℕ). arraySound n 1 1 b (inA c) && arraySound n 2 1 b (inB c))) (f inM tt)
+    (every-all K (λ (c : ℕ). arraySound n 1 1 b (inA c) && arraySound n 2 1 b (inB c))
+    (λ (c : ℕ) (h : c < K). and-i (arraySound n 1 1 b (inA c)) (arraySound n 2 1 b (inB c)) (f (inA c) h) (f (inB c) h)))
 
 module _ (n K : ℕ) (b : List ℕ) where
   each-record : Bool

@@ -11,7 +11,7 @@ use Rattle.model.specs.Listing.{Flag, adopt, commit, Turn, turnM, turnA,
 use Rattle.model.specs.Listing.{Station, active, array, entry, placeArray, placeColumn}
 use Rattle.model.specs.Listing.{flagNumber}
 use Rattle.model.specs.Layout.{registerAt, marked-by, readRegister, registerValue, register, seenOf, readRecord, recordValue, writingOf, readingOf, ofPhase, station, registerOf, recordOf, stationOf}
-use Rattle.model.specs.Sound.{registerSound, marksIn, islandsIn, sameRegister, ownWritten, ownSeen, ownPassed, fieldsSound, recordSound}
+use Rattle.model.specs.Sound.{registerSound, sameRegister, ownWritten, ownSeen, ownPassed, fieldsSound, recordSound}
 use Rattle.model.proofs.Basics.Tests.{and-l, and-r, and-i, implies-use}
 use Rattle.model.proofs.Basics.Numbers.{same-is, same-refl}
 use Rattle.model.proofs.Board.Places.{InBoard}
@@ -21,7 +21,7 @@ use Rattle.model.proofs.Board.Good.{GoodStation, GoodStage, fields-good
 use Rattle.model.proofs.Listing.Collect.{Something, Filled, entry-fills, last-read-sees}
 use Rattle.model.proofs.Listing.OneRead.{GoodRead}
 use Rattle.model.proofs.Listing.Moves.{Readable}
-use Rattle.model.proofs.Board.SoundFacts.{registerTest, SoundBoard}
+use Rattle.model.proofs.Board.SoundFacts.{marksIn, islandsIn, registerTest, SoundBoard}
 
 pub array-inside : (K : ℕ) (t : Turn) (c : ℕ) → c < K → InBoard K (array t c)
 unfolding InBoard array

@@ -15,7 +15,7 @@ use Rattle.model.specs.Listing.{Flag, adopt, commit, Turn, turnM, turnA,
 use Rattle.model.specs.Listing.{active, array, entry, Move, stay, onward, finish, ended, see, move, placeArray, placeColumn}
 use Rattle.model.specs.Listing.{flagNumber}
 use Rattle.model.specs.Layout.{register, layRegister, registerFields, registerBytes, registerOf}
-use Rattle.model.specs.Sound.{registerSound, marksIn, islandsIn, sameRegister, ownWritten, ownSeen, ownPassed}
+use Rattle.model.specs.Sound.{registerSound, sameRegister, ownWritten, ownSeen, ownPassed}
 use Rattle.model.specs.Calls.{putRegister, access}
 use Rattle.model.proofs.Listing.Going.{Going}
 use Rattle.model.proofs.Basics.Tests.{true-T, implies-use, implies-make, cond-case}
@@ -26,7 +26,7 @@ use Rattle.model.proofs.Board.Good.{GoodSeen, GoodStage, GoodStation}
 use Rattle.model.proofs.Listing.OneRead.{own-kept, own-met}
 use Rattle.model.proofs.Listing.Moves.{move-good, move-fits}
 use Rattle.model.proofs.Calls.Access.{write-bytes, read-bytes}
-use Rattle.model.proofs.Board.SoundFacts.{registerTest, SoundBoard}
+use Rattle.model.proofs.Board.SoundFacts.{marksIn, islandsIn, registerTest, SoundBoard}
 use Rattle.model.proofs.Board.Values.{array-inside, register-same-refl, SoundStation, own-register, readable}
 use Rattle.model.proofs.Board.Keeps.{sound-but, register-keeps, station-keeps}
 

@@ -12,7 +12,7 @@ use borrow.Author.Tests.{eq-eqb, ne-eqb}
 use Rattle.model.specs.Bytes.{byte, part, zeros, every}
 use Rattle.model.specs.Listing.{Array, inM, inA, inB}
 use Rattle.model.specs.Layout.{boardLength, rowOf, registerAt}
-use Rattle.model.specs.Sound.{registerSound, headSound, marksIn, islandsIn, arraySound}
+use Rattle.model.specs.Sound.{registerSound, headSound, arraySound}
 use Rattle.model.proofs.Board.Places.{InBoard, register-fits}
 use Rattle.codec.proofs.Laws.Reads.{part-part, first-byte, byte-at}
 use Rattle.soundness.proofs.Laws.Chains.{cond-yes, cond-no}
@@ -64,10 +64,10 @@ row-inside : (n k : ℕ) (b : List ℕ) (a : Array) (start : ℕ) → length b �
 unfolding registerAt
 row-inside n k b a start l h in-board e = omega (arith, register-fits n k a (n - 1) in-board (omega arith))
 
-row-is : (n k : ℕ) (b : List ℕ) (a : Array) (start : ℕ) → start ≡ registerAt n a 0
-    → every n (λ j. registerSound (marksIn a) (islandsIn k a) (part (start + 8 * j) 8 b)) ≡ arraySound n k b a
+row-is : (n marks islands : ℕ) (b : List ℕ) (a : Array) (start : ℕ) → start ≡ registerAt n a 0
+    → every n (λ j. registerSound marks islands (part (start + 8 * j) 8 b)) ≡ arraySound n marks islands b a
 unfolding arraySound registerAt
-row-is n k b a start e = λ i. every n (λ j. registerSound (marksIn a) (islandsIn k a) (part (place j i) 8 b))
+row-is n marks islands b a start e = λ i. every n (λ j. registerSound marks islands (part (place j i) 8 b))
   where
     place : (j : ℕ) → start + 8 * j ≡ 8 + 8 * (n * rowOf a + j)
     place j = omega arith
@@ -76,9 +76,8 @@ row-m : (n : ℕ) → 8 ≡ registerAt n inM 0
 unfolding registerAt rowOf
 row-m n = omega (arith, mul-zero n)
 
-pub array-m : (n k : ℕ) (b : List ℕ) → every n (λ j. registerSound 1 k (part (8 + 8 * j) 8 b)) ≡ arraySound n k b inM
-unfolding marksIn islandsIn
-array-m n k b = row-is n k b inM 8 (row-m n)
+pub array-m : (n k : ℕ) (b : List ℕ) → every n (λ j. registerSound 1 k (part (8 + 8 * j) 8 b)) ≡ arraySound n 1 k b inM
+array-m n k b = row-is n 1 k b inM 8 (row-m n)
 
 -- the rows of island c, A from `start` on and B after it
 pub record Rows (n k c start : ℕ) (b : List ℕ) : Type 0 where
@@ -96,13 +95,11 @@ module _ {n k c start : ℕ} {b : List ℕ} (p : Rows n k c start b) where
   unfolding InBoard
   b-inside = row-inside n k b (inB c) (start + 8 * n) (p .len) (p .some) (p .island) (row-b n c start (p .place))
 
-  pub array-a : every n (λ j. registerSound 1 1 (part (start + 8 * j) 8 b)) ≡ arraySound n k b (inA c)
-  unfolding marksIn islandsIn
-  array-a = row-is n k b (inA c) start (p .place)
+  pub array-a : every n (λ j. registerSound 1 1 (part (start + 8 * j) 8 b)) ≡ arraySound n 1 1 b (inA c)
+  array-a = row-is n 1 1 b (inA c) start (p .place)
 
-  pub array-b : every n (λ j. registerSound 2 1 (part (start + 8 * n + 8 * j) 8 b)) ≡ arraySound n k b (inB c)
-  unfolding marksIn islandsIn
-  array-b = row-is n k b (inB c) (start + 8 * n) (row-b n c start (p .place))
+  pub array-b : every n (λ j. registerSound 2 1 (part (start + 8 * n + 8 * j) 8 b)) ≡ arraySound n 2 1 b (inB c)
+  array-b = row-is n 2 1 b (inB c) (start + 8 * n) (row-b n c start (p .place))
 
 pub m-inside : (n k : ℕ) (b : List ℕ) → length b ≡ boardLength n k → 8 + 8 * n ≤ length b
 unfolding boardLength

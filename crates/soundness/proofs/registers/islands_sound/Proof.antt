@@ -16,7 +16,7 @@ use Rattle.soundness.proofs.registers.islands_sound.Tie as tie
 
 abbrev Inv-loop : tie.InvT-loop
 Inv-loop s n k width start₀ c₀ start c =
-    (c ≤ k) × (start ≡ registerAt n (inA c) 0) × (every c (λ i. arraySound n k s (inA i) && arraySound n k s (inB i)) ≡ true)
+    (c ≤ k) × (start ≡ registerAt n (inA c) 0) × (every c (λ i. arraySound n 1 1 s (inA i) && arraySound n 2 1 s (inB i)) ≡ true)
 
 abbrev μ-loop : tie.MeasureT-loop
 μ-loop s n k width start₀ c₀ start c = k - c
