@@ -10,8 +10,9 @@ use Rattle.model.specs.declared.StepAnswer.{StepAnswer}
 use Rattle.model.specs.Figure.{Figure}
 use Rattle.model.specs.Listing.{Stage, active, placeArray, placeColumn, accepted}
 use Rattle.model.specs.Layout.{boardLength, registerAt, recordValue}
-use Rattle.model.specs.Calls.{access, stepOn, ranFrom, notYet}
+use Rattle.model.specs.Calls.{access, stepOn}
 use Rattle.model.specs.Told.{told}
+use Rattle.model.proofs.Calls.Runs.{taken, answers, after}
 
 -- the offset r of the one register that station index j touches next
 unfoldable pub Touches : (n j : ℕ) (f : Record) (r : ℕ) → Type 0
@@ -40,4 +41,4 @@ counts a = cond (accepted (told a)) 1 0
 
 -- the steps r taken by the stations `is` one after another on a sound board b, and the bytes d afterwards
 unfoldable pub RunsOn : (is b : List ℕ) (r : ℕ) (d : List ℕ) → Type 0
-RunsOn is b r d = (r ≡ ranFrom stepOn (notYet b) is .answer .taken) × (r ≤ length is) × (d ≡ ranFrom stepOn (notYet b) is .bytes)
+RunsOn is b r d = (r ≡ taken (answers stepOn b is)) × (r ≤ length is) × (d ≡ after stepOn b is)

@@ -1,6 +1,6 @@
 -- The calls: for each, the refusals in 01's order, then the answer and the bytes afterwards, from what is lent and given.
 -- Relies on all definitions but the shown line; every public contract is an equation with one of these.
-use mathlib.Core.Bool.{Bool, true, false, _&&_}
+use mathlib.Core.Bool.{Bool, true, false, _&&_, cond}
 use mathlib.Core.List.{List, [], _∷_}
 use mathlib.Core.Option.{Option, none, some}
 use Prim.Native.Nat.{ℕ, _+_, _-_}
@@ -109,35 +109,17 @@ unfoldable pub step : (i : ℕ) → List ℕ → After (Answer Figure)
 step i b = unlessRefused (boardRefusal b none) refused b (stepOn i b)
 
 -- "S steps taken, T steps refused and passed over"
-pub record Ran : Type 0 where
-  pub taken : ℕ
-  pub passed : ℕ
-
-unfoldable pub tally : Ran → Bool → Ran
-tally r true = record { taken = r .taken + 1; passed = r .passed }
-tally r false = record { taken = r .taken; passed = r .passed + 1 }
-
--- the stations of a list one after another, each lent "the board exactly as the call before left it"; `one` is how each
--- is stepped
-unfoldable pub ranOne : (one : ℕ → List ℕ → After (Answer Figure)) → After Ran → ℕ → After Ran
-ranOne one r i = record { answer = tally (r .answer) (accepted (one i (r .bytes) .answer)); bytes = one i (r .bytes) .bytes }
-
-unfoldable pub ranFrom : (one : ℕ → List ℕ → After (Answer Figure)) → After Ran → List ℕ → After Ran
-ranFrom one r [] = r
-ranFrom one r (i ∷ is) = ranFrom one (ranOne one r i) is
-
-unfoldable pub notYet : List ℕ → After Ran
-notYet b = record { answer = record { taken = 0; passed = 0 }; bytes = b }
-
 pub data RunAnswer : Type 0 where
-  ran : Ran → RunAnswer
+  ran : (taken passed : ℕ) → RunAnswer
   notRun : (number : ℕ) → RunAnswer
 
-unfoldable pub finished : After Ran → After RunAnswer
-finished r = record { answer = ran (r .answer); bytes = r .bytes }
+-- After s steps taken and t passed over, the stations of a list in turn, each lent "the board exactly as the call before
+-- left it"; `one` is how each is stepped.
+unfoldable pub ranFrom : (one : ℕ → List ℕ → After (Answer Figure)) → (s t : ℕ) → List ℕ → List ℕ → After RunAnswer
+ranFrom one s t [] b = record { answer = ran s t; bytes = b }
+ranFrom one s t (i ∷ is) b =
+    let r = one i b in cond (accepted (r .answer)) (ranFrom one (s + 1) t is (r .bytes)) (ranFrom one s (t + 1) is (r .bytes))
 
 -- "6. The items expand to more than 65,536 steps.", then the board's own refusals
 unfoldable pub run : (is : List ℕ) → List ℕ → After RunAnswer
-run is b =
-    unlessRefused (unless (leb (length is) 65536) 6 (boardRefusal b none)) notRun b
-    (finished (ranFrom step (notYet b) is))
+run is b = unlessRefused (unless (leb (length is) 65536) 6 (boardRefusal b none)) notRun b (ranFrom step 0 0 is b)

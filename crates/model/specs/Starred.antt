@@ -32,7 +32,7 @@ unfoldable pub endOf : After RunAnswer → Outcome
 endOf r = byAnswer (r .answer)
   where
     byAnswer : RunAnswer → Outcome
-    byAnswer (ran c) = ended (c .taken) (c .passed) (shownLine (r .bytes))
+    byAnswer (ran s t) = ended s t (shownLine (r .bytes))
     byAnswer (notRun k) = turnedDown k
 
 unfoldable pub play : (n K : ℕ) → List Figure → List ℕ → Outcome

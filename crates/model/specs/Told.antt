@@ -29,7 +29,7 @@ verdict verdicts.Accepted = none
 verdict (verdicts.Refused k) = some k
 
 unfoldable pub runTold : RunVerdict → RunAnswer
-runTold (runs.Ran s t) = ran (record { taken = s; passed = t })
+runTold (runs.Ran s t) = ran s t
 runTold (runs.Refused k) = notRun k
 
 unfoldable pub shownTold : ShownLine → Shown

@@ -1,6 +1,6 @@
 -- A refused call answers its number and leaves every byte; a move of a going station is never a refusal.
--- Relies on the calls' definitions and Refusals; the laws of lists of calls rely on it.
-use mathlib.Core.Path.{_≡_, refl, sym, _∙_}
+-- Relies on the calls' definitions, Refusals and Runs; the laws of lists of calls rely on it.
+use mathlib.Core.Path.{_≡_, refl, sym, ap, _∙_}
 use mathlib.Core.Bool.{true, false}
 use mathlib.Core.List.{List}
 use mathlib.Core.Option.{none, some}
@@ -11,10 +11,11 @@ use Rattle.model.specs.Figure.{Figure, figures}
 use Rattle.model.specs.Listing.{Order, Turn, turnM, turnA, turnB, Grade, first, second, third, Register, Seen, nothing, seen, Stage, writing, reading, has-decided, is-spent}
 use Rattle.model.specs.Listing.{Station, idle, active, Answer, refused, accepted, Move, stay, onward, finish, ended, see, move}
 use Rattle.model.specs.Calls.{After, Refusal, RunAnswer, notRun, boardRefusal, stationRefusal, stationAt, stations, islands, lay, propose, notGoing}
-use Rattle.model.specs.Calls.{access, stepped, stepOn, step, finished, run}
+use Rattle.model.specs.Calls.{access, stepped, stepOn, step, run}
 use Rattle.model.proofs.Basics.Tests.{clash, cond-case}
 use Rattle.model.proofs.Listing.Going.{Going}
 use Rattle.model.proofs.Calls.CallsKeep.{going-of}
+use Rattle.model.proofs.Calls.Runs.{ran-is}
 use Rattle.model.proofs.Calls.Refusals.{some-none, call-case, station-of}
 
 -- what a caller sees: a refused call's bytes are those it was lent
@@ -29,10 +30,10 @@ propose-refused i v b k =
     call-case (λ (a : After Refusal). a .answer ≡ some k → a .bytes ≡ b) _ some b _ (λ e f. some-none k (sym f)) (λ j e f. refl)
 
 pub run-refused : (is b : List ℕ) (k : ℕ) → run is b .answer ≡ notRun k → run is b .bytes ≡ b
-unfolding run finished
+unfolding run
 run-refused is b k =
     call-case (λ (a : After RunAnswer). a .answer ≡ notRun k → a .bytes ≡ b) _ notRun b _
-    (λ e f. absurd (let z : _≡_ {A = ℕ} 0 1 = cc in omega arith)) (λ j e f. refl)
+    (λ e f. absurd (let g = sym (ap (λ (a : After RunAnswer). a .answer) (ran-is step 0 0 is b)) ∙ f in let z : _≡_ {A = ℕ} 0 1 = cc in omega arith)) (λ j e f. refl)
 
 -- ---- a move of a going station answers no refusal
 

@@ -10,32 +10,34 @@ use lib.Dec.{leb, le→leb}
 use lib.ListN.{length}
 use Rattle.model.specs.Figure.{Figure}
 use Rattle.model.specs.Listing.{Answer, accepted}
-use Rattle.model.specs.Calls.{After, Ran, tally, ranOne, ranFrom, notYet, notRun, finished, run, boardRefusal, unlessRefused, stepOn, step}
+use Rattle.model.specs.Calls.{After, RunAnswer, ran, notRun, ranFrom, run, boardRefusal, unlessRefused, stepOn, step}
 use Rattle.model.proofs.Calls.Refusals.{Board, board-passes, unless-passes, step-on}
 use Rattle.model.proofs.Calls.CallsKeep.{step-keeps}
 
--- how many of the answers pass a test
-unfoldable pub counted : (Answer Figure → Bool) → List (Answer Figure) → ℕ
-counted f [] = 0
-counted f (x ∷ xs) = cond (f x) 1 0 + counted f xs
+-- how many of the answers are no refusals
+unfoldable pub taken : List (Answer Figure) → ℕ
+taken [] = 0
+taken (x ∷ xs) = cond (accepted x) 1 0 + taken xs
 
-pub tally-taken : (r : Ran) (t : Bool) → tally r t .taken ≡ r .taken + cond t 1 0
-unfolding tally
-tally-taken r true = refl
-tally-taken r false = omega arith
+-- and how many are
+unfoldable pub passed : List (Answer Figure) → ℕ
+passed [] = 0
+passed (x ∷ xs) = cond (accepted x) 0 1 + passed xs
 
-tally-both : (r : Ran) (t : Bool) → tally r t .taken + tally r t .passed ≡ suc (r .taken + r .passed)
-unfolding tally
-tally-both r true = omega arith
-tally-both r false = omega arith
+pub taken-append : (xs ys : List (Answer Figure)) → taken (xs ++ ys) ≡ taken xs + taken ys
+unfolding taken
+taken-append [] ys = omega arith
+taken-append (x ∷ xs) ys = omega (arith, taken-append xs ys)
+
+same-counts : (s t s′ t′ : ℕ) (b : List ℕ) → s ≡ s′ → t ≡ t′
+    → _≡_ {A = After RunAnswer} (record { answer = ran s t; bytes = b }) (record { answer = ran s′ t′; bytes = b })
+same-counts s t s′ t′ b e f = λ j. record { answer = ran (e j) (f j); bytes = b }
+
+one-more : (a : Bool) (s t k : ℕ) → s + t ≡ k → cond a 1 0 + s + (cond a 0 1 + t) ≡ suc k
+one-more true s t k e = omega arith
+one-more false s t k e = omega arith
 
 module _ (one : ℕ → List ℕ → After (Answer Figure)) where
-  -- a run over two lists is the run over the second from where the first ended
-  pub ran-append : (r : After Ran) (is js : List ℕ) → ranFrom one r (is ++ js) ≡ ranFrom one (ranFrom one r is) js
-  unfolding ranFrom
-  ran-append r [] js = refl
-  ran-append r (i ∷ is) js = ran-append (ranOne one r i) is js
-
   -- the board after single steps, and their answers in order
   unfoldable pub after : List ℕ → List ℕ → List ℕ
   after b [] = b
@@ -45,44 +47,63 @@ module _ (one : ℕ → List ℕ → After (Answer Figure)) where
   answers b [] = []
   answers b (i ∷ is) = one i b .answer ∷ answers (one i b .bytes) is
 
-  pub ran-bytes : (r : After Ran) (is : List ℕ) → ranFrom one r is .bytes ≡ after (r .bytes) is
-  unfolding ranFrom ranOne after
-  ran-bytes r [] = refl
-  ran-bytes r (i ∷ is) = ran-bytes (ranOne one r i) is
+  -- steps over two lists are those over the second from where the first ended
+  pub after-append : (b is js : List ℕ) → after b (is ++ js) ≡ after (after b is) js
+  unfolding after
+  after-append b [] js = refl
+  after-append b (i ∷ is) js = after-append (one i b .bytes) is js
 
-  -- S is the number of steps taken
-  pub ran-taken : (r : After Ran) (is : List ℕ) → ranFrom one r is .answer .taken ≡ r .answer .taken + counted accepted (answers (r .bytes) is)
-  unfolding ranFrom ranOne answers counted
-  ran-taken r [] = omega arith
-  ran-taken r (i ∷ is) =
-      ran-taken (ranOne one r i) is
-      ∙ omega (arith, tally-taken (r .answer) (accepted (one i (r .bytes) .answer)))
+  pub answers-append : (b is js : List ℕ) → answers b (is ++ js) ≡ answers b is ++ answers (after b is) js
+  unfolding answers after
+  answers-append b [] js = refl
+  answers-append b (i ∷ is) js = ap (λ (l : List (Answer Figure)). one i b .answer ∷ l) (answers-append (one i b .bytes) is js)
 
-  -- and S and T together are all of them
-  pub ran-both : (r : After Ran) (is : List ℕ)
-      → ranFrom one r is .answer .taken + ranFrom one r is .answer .passed ≡ r .answer .taken + r .answer .passed + length is
-  unfolding ranFrom ranOne
-  ran-both r [] = omega arith
-  ran-both r (i ∷ is) =
-      ran-both (ranOne one r i) is ∙ omega (arith, tally-both (r .answer) (accepted (one i (r .bytes) .answer)))
+  -- what a run of the stations `is` gives after s steps taken and t passed over
+  counted : (s t : ℕ) (is b : List ℕ) → After RunAnswer
+  counted s t is b = record { answer = ran (s + taken (answers b is)) (t + passed (answers b is)); bytes = after b is }
+
+  one-taken : (s t : ℕ) (i : ℕ) (is b : List ℕ) (a : Bool)
+      → cond a (counted (s + 1) t is (one i b .bytes)) (counted s (t + 1) is (one i b .bytes))
+      ≡ (record {
+        answer = ran (s + (cond a 1 0 + taken (answers (one i b .bytes) is))) (t + (cond a 0 1 + passed (answers (one i b .bytes) is)));
+        bytes = after (one i b .bytes) is;
+      })
+  unfolding counted
+  one-taken s t i is b true = same-counts _ _ _ _ _ (omega arith) (omega arith)
+  one-taken s t i is b false = same-counts _ _ _ _ _ (omega arith) (omega arith)
+
+  -- A run is its single steps: S of them were taken, T refused, and the board is the one that they leave.
+  pub ran-is : (s t : ℕ) (is b : List ℕ)
+      → ranFrom one s t is b ≡ (record { answer = ran (s + taken (answers b is)) (t + passed (answers b is)); bytes = after b is })
+  unfolding ranFrom answers after taken passed counted
+  ran-is s t [] b = same-counts _ _ _ _ _ (omega arith) (omega arith)
+  ran-is s t (i ∷ is) b =
+      (λ j. cond (accepted (one i b .answer)) (ran-is (s + 1) t is (one i b .bytes) j) (ran-is s (t + 1) is (one i b .bytes) j))
+      ∙ one-taken s t i is b (accepted (one i b .answer))
+
+  -- S and T together are all of them
+  pub ran-both : (b is : List ℕ) → taken (answers b is) + passed (answers b is) ≡ length is
+  unfolding answers taken passed
+  ran-both b [] = refl
+  ran-both b (i ∷ is) = one-more (accepted (one i b .answer)) _ _ _ (ran-both (one i b .bytes) is)
 
 -- Every board on the way is sound, so that no step need test it.
-pub ran-on : (r : After Ran) (is : List ℕ) → Board (r .bytes) → ranFrom step r is ≡ ranFrom stepOn r is
-unfolding ranFrom ranOne
-ran-on r [] h = refl
-ran-on r (i ∷ is) h =
-    ran-on (ranOne step r i) is (step-keeps i (r .bytes) h)
-    ∙ ap (λ (a : After (Answer Figure)). ranFrom stepOn (record { answer = tally (r .answer) (accepted (a .answer)); bytes = a .bytes }) is) (step-on i (r .bytes) h)
+pub ran-on : (s t : ℕ) (is b : List ℕ) → Board b → ranFrom step s t is b ≡ ranFrom stepOn s t is b
+unfolding ranFrom
+ran-on s t [] b h = refl
+ran-on s t (i ∷ is) b h =
+    (λ j. cond (accepted (step i b .answer)) (ran-on (s + 1) t is (step i b .bytes) (step-keeps i b h) j) (ran-on s (t + 1) is (step i b .bytes) (step-keeps i b h) j))
+    ∙ ap (λ (a : After (Answer Figure)). cond (accepted (a .answer)) (ranFrom stepOn (s + 1) t is (a .bytes)) (ranFrom stepOn s (t + 1) is (a .bytes))) (step-on i b h)
 
-pub ran-keeps : (r : After Ran) (is : List ℕ) → Board (r .bytes) → Board (ranFrom step r is .bytes)
-unfolding ranFrom ranOne
-ran-keeps r [] h = h
-ran-keeps r (i ∷ is) h = ran-keeps (ranOne step r i) is (step-keeps i (r .bytes) h)
+pub ran-keeps : (is b : List ℕ) → Board b → Board (after step b is)
+unfolding after
+ran-keeps [] b h = h
+ran-keeps (i ∷ is) b h = ran-keeps is (step i b .bytes) (step-keeps i b h)
 
 -- So a run over a sound board tests soundness once.
-pub run-on : (is b : List ℕ) → Board b → length is ≤ 65536 → run is b ≡ finished (ranFrom stepOn (notYet b) is)
-unfolding run unlessRefused notYet
+pub run-on : (is b : List ℕ) → Board b → length is ≤ 65536 → run is b ≡ ranFrom stepOn 0 0 is b
+unfolding run unlessRefused
 run-on is b h l =
-    ap (λ (r : Option ℕ). unlessRefused r notRun b (finished (ranFrom step (notYet b) is)))
+    ap (λ (r : Option ℕ). unlessRefused r notRun b (ranFrom step 0 0 is b))
     (unless-passes (leb (length is) 65536) 6 (boardRefusal b none) (le→leb (length is) 65536 l) ∙ board-passes b h none)
-    ∙ ap finished (ran-on (notYet b) is h)
+    ∙ ran-on 0 0 is b h
