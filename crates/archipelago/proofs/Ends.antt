@@ -10,7 +10,7 @@ use Rattle.model.specs.declared.StepAnswer.the-variants.{Went, Marked, Adopted,
 use Rattle.model.specs.Figure.{Figure}
 use Rattle.model.specs.Listing.{Flag, turnM, turnA, turnB, first, second, third, Seen, nothing, seen, Move}
 use Rattle.model.specs.Listing.{stay, onward, finish, ended}
-use Rattle.model.specs.Layout.{gradeNumber, seenNumber, bestIsland, bestFigure, seenOf, fields, recordFields, writePhase, flagByte}
+use Rattle.model.specs.Layout.{seenNumber, bestIsland, bestFigure, seenOf, fields, recordFields, writePhase, flagByte}
 use Rattle.model.specs.Listing.{flagNumber}
 use Rattle.model.specs.Told.{told}
 use Rattle.archipelago.specs.declared.Moved.{Moved}
@@ -21,7 +21,7 @@ use Rattle.archipelago.specs.Advanced.{Advanced, Finishes, Written, deci
 
 pub ended-nothing : (f : Record) (y : Figure) → f .seen ≡ 0 → y ≡ f .carried
     → noting f 3 (f .island) y ≡ withSeen f (endedSeen (f .island) (f .carried) (collected f))
-unfolding collected seenOf endedSeen withSeen seenNumber gradeNumber bestIsland bestFigure
+unfolding collected seenOf endedSeen withSeen seenNumber bestIsland bestFigure
 ended-nothing f y e z =
     ap (noting f 3 (f .island)) z ∙ ap (λ (s : ℕ). withSeen f (endedSeen (f .island) (f .carried) (seenOf s (f .highest) (f .best)))) (sym e)
 
@@ -58,28 +58,28 @@ module _ (K : ℕ) (v : Figure) (c : ℕ) (x : Figure) where
   end-m (seen g k y) = record { station = refl; written = refl; answer = refl }
 
   end-commit : (a : Seen Figure) → number-at a ≡ 1 → Advanced v (ended K turnA c x a) (begins 5 c 2 v (figure-at a) (Marked 2 (figure-at a)))
-  unfolding figure-at number-at endedSeen seenNumber gradeNumber bestFigure ended finish stay begins staying Written told recordFields writePhase flagByte flagNumber
+  unfolding figure-at number-at endedSeen seenNumber bestFigure ended finish stay begins staying Written told recordFields writePhase flagByte flagNumber
   end-commit nothing e = absurd (omega arith)
   end-commit (seen first k y) e = record { station = refl; written = refl; answer = refl }
   end-commit (seen second k y) e = absurd (omega arith)
   end-commit (seen third k y) e = absurd (omega arith)
 
   end-adopt : (a : Seen Figure) → (number-at a ≡ 1 → ⊥) → Advanced v (ended K turnA c x a) (begins 5 c 1 v (figure-at a) (Marked 1 (figure-at a)))
-  unfolding figure-at number-at endedSeen seenNumber gradeNumber bestFigure ended finish stay begins staying Written told recordFields writePhase flagByte flagNumber
+  unfolding figure-at number-at endedSeen seenNumber bestFigure ended finish stay begins staying Written told recordFields writePhase flagByte flagNumber
   end-adopt nothing e = record { station = refl; written = refl; answer = refl }
   end-adopt (seen first k y) e = absurd (e refl)
   end-adopt (seen second k y) e = record { station = refl; written = refl; answer = refl }
   end-adopt (seen third k y) e = record { station = refl; written = refl; answer = refl }
 
   end-decided : (e : Flag) (a : Seen Figure) → number-at a ≡ 2 → decision c (figure-at a) ≡ ended K (turnB e) c x a
-  unfolding figure-at number-at endedSeen seenNumber gradeNumber bestFigure ended finish decision
+  unfolding figure-at number-at endedSeen seenNumber bestFigure ended finish decision
   end-decided e nothing q = absurd (omega arith)
   end-decided e (seen first k y) q = absurd (omega arith)
   end-decided e (seen second k y) q = refl
   end-decided e (seen third k y) q = absurd (omega arith)
 
   end-onward : (e : Flag) (a : Seen Figure) → (number-at a ≡ 2 → ⊥) → onward K c (figure-at a) ≡ ended K (turnB e) c x a
-  unfolding figure-at number-at endedSeen seenNumber gradeNumber bestFigure ended finish
+  unfolding figure-at number-at endedSeen seenNumber bestFigure ended finish
   end-onward e nothing q = refl
   end-onward e (seen first k y) q = refl
   end-onward e (seen second k y) q = absurd (q refl)

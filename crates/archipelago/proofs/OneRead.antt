@@ -8,13 +8,14 @@ use Rattle.model.specs.declared.Register as Fields
 use Rattle.model.specs.Figure.{Figure, figures, sameFigure}
 use Rattle.model.specs.Listing.{Flag, Turn, turnM, turnA, first, second, third, Seen, nothing, seen}
 use Rattle.model.specs.Listing.{Register, filled, larger, pairAbove, add, see, flagOf}
-use Rattle.model.specs.Layout.{gradeNumber, seenNumber, bestIsland, bestFigure, seenOf, marked-by, registerValue}
+use Rattle.model.specs.Layout.{seenNumber, bestIsland, bestFigure, seenOf, registerValue}
+use Rattle.model.proofs.Board.Codec.{marked-by}
 use Rattle.archipelago.specs.Collected.{collected, noting, withSeen, Kept, seeing}
 
 -- ---- the seen fields
 
 pub seen-back : (a : Seen Figure) → seenOf (seenNumber a) (bestIsland a) (bestFigure a) ≡ a
-unfolding seenNumber gradeNumber bestIsland bestFigure seenOf
+unfolding seenNumber bestIsland bestFigure seenOf
 seen-back nothing = refl
 seen-back (seen first k y) = refl
 seen-back (seen second k y) = refl
@@ -34,7 +35,7 @@ kept-with f a = ap (withSeen (withSeen f a)) (collected-with f a) ∙ with-again
 
 -- the grade does not hang on the best pair
 same-number : (s j k : ℕ) (x y : Figure) → seenNumber (seenOf s j x) ≡ seenNumber (seenOf s k y)
-unfolding seenNumber seenOf gradeNumber
+unfolding seenNumber seenOf
 same-number zero j k x y = refl
 same-number (suc zero) j k x y = refl
 same-number (suc (suc zero)) j k x y = refl
@@ -68,12 +69,11 @@ regraded f h n k y =
 -- ---- what the register holds and what was seen, from the tests on them
 
 marked-filled : (m k : ℕ) (y : Figure) → (m ≡ 0 → ⊥) → marked-by m k y ≡ filled (flagOf m) k y
-unfolding marked-by
 marked-filled zero k y h = absurd (h refl)
 marked-filled (suc m) k y h = refl
 
 pub see-empty : (t : Turn) (f : Record) (g : Fields.Register) → Kept f → g .mark ≡ 0 → f ≡ seeing t f g
-unfolding Kept seeing registerValue marked-by see
+unfolding Kept seeing registerValue see
 see-empty t f g h e =
     sym (ap (λ (m : ℕ). withSeen f (see figures t (collected f) (marked-by m (g .island) (g .figure)))) e ∙ h)
 
@@ -97,7 +97,7 @@ module _ (t : Turn) (f : Record) (fl : Flag) (k : ℕ) (y : Figure) (s : ℕ) (e
 
 pub m-first : (f r : Record) (g : Fields.Register) (y : Figure) → (g .mark ≡ 0 → ⊥) → f .seen ≡ 0 → r ≡ noting f 1 (g .island) y → y ≡ g .figure
     → r ≡ seeing turnM f g
-unfolding seenOf add withSeen seenNumber gradeNumber bestIsland bestFigure
+unfolding seenOf add withSeen seenNumber bestIsland bestFigure
 m-first f r g y h e q z =
     q ∙ ap (noting f 1 (g .island)) z ∙ added turnM f (flagOf (g .mark)) (g .island) (g .figure) 0 e ∙ sym (see-filled turnM f g h)
 
@@ -131,7 +131,7 @@ module _ (f : Record) (g : Fields.Register) (kept : Kept f) (h : g .mark ≡ 0 �
 
 pub a-first : (f r : Record) (g : Fields.Register) (y : Figure) → (g .mark ≡ 0 → ⊥) → f .seen ≡ 0 → r ≡ noting f 1 0 y → y ≡ g .figure
     → r ≡ seeing turnA f g
-unfolding seenOf add withSeen seenNumber gradeNumber bestIsland bestFigure
+unfolding seenOf add withSeen seenNumber bestIsland bestFigure
 a-first f r g y h e q z =
     q ∙ ap (noting f 1 0) z ∙ added turnA f (flagOf (g .mark)) (g .island) (g .figure) 0 e ∙ sym (see-filled turnA f g h)
 
@@ -144,11 +144,11 @@ module _ (f r : Record) (g : Fields.Register) (y : Figure) (h : g .mark ≡ 0 �
       ∙ added turnA f (flagOf (g .mark)) (g .island) (g .figure) 1 e ∙ sym (see-filled turnA f g h)
 
   pub a-same : f .seen ≡ 1 → sameFigure (f .best) (g .figure) ≡ true → r ≡ noting f 1 (f .highest) y → r ≡ seeing turnA f g
-  unfolding withSeen seenNumber gradeNumber bestIsland bestFigure
+  unfolding withSeen seenNumber bestIsland bestFigure
   a-same e d q = q ∙ a-one true e d
 
   pub a-differs : f .seen ≡ 1 → sameFigure (f .best) (g .figure) ≡ false → r ≡ noting f 2 (f .highest) y → r ≡ seeing turnA f g
-  unfolding withSeen seenNumber gradeNumber bestIsland bestFigure
+  unfolding withSeen seenNumber bestIsland bestFigure
   a-differs e d q = q ∙ a-one false e d
 
   a-add : (s : ℕ) → (s ≡ 0 → ⊥) → (s ≡ 1 → ⊥) → (j k : ℕ) (x v : Figure) (fl : Flag)

@@ -7,32 +7,32 @@ use Rattle.model.specs.declared.Record.{Record}
 use Rattle.model.specs.declared.Register as Fields
 use Rattle.model.specs.Figure.{Figure, figures, sameFigure}
 use Rattle.model.specs.Listing.{Flag, adopt, commit, turnB, first, second, third, Seen, nothing, seen, larger, add, flagOf}
-use Rattle.model.specs.Layout.{gradeNumber, seenNumber, bestIsland, bestFigure, seenOf}
+use Rattle.model.specs.Layout.{seenNumber, bestIsland, bestFigure, seenOf}
 use Rattle.archipelago.specs.Collected.{collected, noting, withSeen, Kept, seeing, Adds}
 use Rattle.archipelago.proofs.OneRead.{at-seen, added, see-filled}
 
 -- ---- an adopt
 
 pub adopt-first : (f r : Record) (y z : Figure) → f .seen ≡ 0 → r ≡ noting f 1 0 z → z ≡ y → Adds adopt f y r
-unfolding Adds seenOf add withSeen seenNumber gradeNumber bestIsland bestFigure
+unfolding Adds seenOf add withSeen seenNumber bestIsland bestFigure
 adopt-first f r y z s q l e = q ∙ ap (noting f 1 0) l ∙ added (turnB e) f adopt 0 y 0 s
 
 pub adopt-more : (f r : Record) (y z : Figure) → f .seen ≡ 1 → r ≡ noting f 1 (f .highest) z → z ≡ larger figures (f .best) y → Adds adopt f y r
-unfolding Adds seenOf add withSeen seenNumber gradeNumber bestIsland bestFigure
+unfolding Adds seenOf add withSeen seenNumber bestIsland bestFigure
 adopt-more f r y z s q l e = q ∙ ap (noting f 1 (f .highest)) l ∙ added (turnB e) f adopt 0 y 1 s
 
 pub adopt-beside : (f r : Record) (y z : Figure) → f .seen ≡ 2 → r ≡ noting f 3 (f .highest) z → z ≡ f .best → Adds adopt f y r
-unfolding Adds seenOf add withSeen seenNumber gradeNumber bestIsland bestFigure
+unfolding Adds seenOf add withSeen seenNumber bestIsland bestFigure
 adopt-beside f r y z s q l e = q ∙ ap (noting f 3 (f .highest)) l ∙ added (turnB e) f adopt 0 y 2 s
 
 -- ---- a commit
 
 pub commit-first : (f r : Record) (y z : Figure) → f .seen ≡ 0 → r ≡ noting f 2 0 z → z ≡ y → Adds commit f y r
-unfolding Adds seenOf add withSeen seenNumber gradeNumber bestIsland bestFigure
+unfolding Adds seenOf add withSeen seenNumber bestIsland bestFigure
 commit-first f r y z s q l e = q ∙ ap (noting f 2 0) l ∙ added (turnB e) f commit 0 y 0 s
 
 pub commit-beside : (f r : Record) (y z : Figure) → f .seen ≡ 1 → r ≡ noting f 3 (f .highest) z → z ≡ y → Adds commit f y r
-unfolding Adds seenOf add withSeen seenNumber gradeNumber bestIsland bestFigure
+unfolding Adds seenOf add withSeen seenNumber bestIsland bestFigure
 commit-beside f r y z s q l e = q ∙ ap (noting f 3 (f .highest)) l ∙ added (turnB e) f commit 0 y 1 s
 
 commit-again : (f : Record) (y : Figure) (b : Bool) → f .seen ≡ 2 → sameFigure (f .best) y ≡ b → (e : Flag)
@@ -47,7 +47,7 @@ commit-same f y kept s d e = sym kept ∙ ap (withSeen f) (at-seen f 2 s) ∙ co
 
 pub commit-differs : (f r : Record) (y z : Figure) → f .seen ≡ 2 → sameFigure (f .best) y ≡ false → r ≡ noting f 3 (f .highest) z → z ≡ f .best
     → Adds commit f y r
-unfolding Adds withSeen seenNumber gradeNumber bestIsland bestFigure
+unfolding Adds withSeen seenNumber bestIsland bestFigure
 commit-differs f r y z s d q l e = q ∙ ap (noting f 3 (f .highest)) l ∙ commit-again f y false s d e
 
 -- ---- after a commit beside another figure nothing changes any more

@@ -10,12 +10,12 @@ use lib.ListN.{length}
 use Rattle.model.specs.Bytes.{byte, part, number, digits, splice}
 use Rattle.model.specs.Figure.{Figure, figure, figureBytes}
 use Rattle.model.specs.Listing.{Array, Register, Seen, nothing, seen, writing, reading, has-decided, is-spent, Station, idle, active}
-use Rattle.model.specs.Layout.{seenNumber, bestIsland, bestFigure, fields, readRecord, layRecord, layRegister, recordFields, recordBytes, registerBytes, registerAt, station}
+use Rattle.model.specs.Layout.{seenNumber, bestIsland, bestFigure, fields, readRecord, layRecord, layRegister, recordFields, registerAt}
 use Rattle.model.specs.Calls.{putRegister}
 use Rattle.model.specs.Sound.{fieldsSound, positionInside, islandInside}
 use Rattle.model.proofs.Basics.Tests.{and-l, and-r}
 use Rattle.model.proofs.Basics.Numbers.{Bytes}
-use Rattle.model.proofs.Board.Codec.{Fits, FitsSeen, FitsStage, FitsStation, bytes-Fits}
+use Rattle.model.proofs.Board.Codec.{recordBytes, registerBytes, station, Fits, FitsSeen, FitsStage, FitsStation, bytes-Fits}
 use Rattle.model.proofs.Board.Values.{station-Fits}
 use Rattle.model.proofs.Board.Canon.{bytes-station}
 use Rattle.archipelago.specs.declared.Moved.{Moved}
@@ -45,11 +45,11 @@ fields-back phase p c a flag v x hv hx ha =
     }
 
 idle-back : readRecord (recordBytes idle) ≡ recordFields idle
-unfolding recordBytes recordFields readRecord layRecord fields part figure figureBytes digits number seenNumber bestIsland bestFigure
+unfolding recordFields readRecord layRecord fields part figure figureBytes digits number seenNumber bestIsland bestFigure
 idle-back = refl
 
 record-back : (s : Station Figure) → FitsStation s → readRecord (recordBytes s) ≡ recordFields s
-unfolding recordBytes recordFields FitsStation FitsStage FitsSeen
+unfolding recordFields FitsStation FitsStage FitsSeen
 record-back idle h = idle-back
 record-back (active v (writing t c x)) h = fields-back _ _ _ nothing _ _ _ (h .0) (h .1) tt
 record-back (active v (reading t c x p a)) h = fields-back _ _ _ a _ _ _ (h .0) (h .1 .0) (h .1 .1)
@@ -68,7 +68,7 @@ module _ (n K : ℕ) (r : List ℕ) (t : T (fieldsSound n K (byte r 0) r)) where
   island-inside = ltb→lt (byte r 2) K (search (and-l, and-r) depth 12)
 
   pub ready : length r ≡ 24 → Bytes r → 1 ≤ byte r 0 → byte r 0 ≤ 6 → Ready n K (readRecord r)
-  unfolding readRecord station
+  unfolding readRecord
   ready e b l h = record {
     whole = sym (record-back (station r) (station-Fits r)) ∙ ap readRecord (bytes-station n K r e b t);
     begun = l;
@@ -81,7 +81,7 @@ module _ (n K : ℕ) (r : List ℕ) (t : T (fieldsSound n K (byte r 0) r)) where
 
 pub put-written : (n : ℕ) (a : Array) (j : ℕ) (o : Option (Register Figure)) (b : List ℕ) (r : Moved) → Written o r → r .writes ≡ true
     → putRegister n a j o b ≡ splice (registerAt n a j) (layRegister (r .register)) b
-unfolding Written putRegister registerBytes
+unfolding Written putRegister
 put-written n a j none b r w e = absurd (true≢false (sym e ∙ w))
 put-written n a j (some g) b r w e = ap (λ (f : _). splice (registerAt n a j) (layRegister f) b) (sym (w .1))
 

@@ -13,11 +13,11 @@ use lib.Dec.{ltb, lit<}
 use borrow.Author.Tests.{ltb-true}
 use Rattle.model.specs.Figure.{Figure}
 use Rattle.model.specs.Listing.{Register, empty, Stage, has-decided, Station, idle, active, Array, inM}
-use Rattle.model.specs.Layout.{freshBoard, register, readRegister, registerValue, marked-by, registerOf, station, stationOf}
+use Rattle.model.specs.Layout.{freshBoard, readRegister, registerValue, registerOf, stationOf}
 use Rattle.model.specs.Calls.{After, Refusal, shapeRefusal, stations, islands, lay}
 use Rattle.model.specs.AnyList.{Call, AllAllowed, Some, Proposes, Steps, Decides, Seat, Among, Once, AsProposed, EachDecides, Ordered, Demand3, AnyList}
 use Rattle.model.proofs.Basics.Tests.{cond-case, true-T, T-true, and-l, and-r}
-use Rattle.model.proofs.Board.Codec.{Fits, FitsStation, station-bytes}
+use Rattle.model.proofs.Board.Codec.{register, marked-by, station, Fits, FitsStation, station-bytes}
 use Rattle.model.proofs.Board.Boards.{registerPart}
 use Rattle.model.proofs.Board.Fresh.{fresh-idle, fresh-empty}
 use Rattle.model.proofs.Listing.Collect.{Filled}
@@ -44,7 +44,7 @@ module _ (n K : ℕ) where
   fresh-station j h = ap station (fresh-idle n K j h) ∙ station-bytes idle tt
 
   fresh-register : (a : Array) (j : ℕ) → inside K a && ltb j n ≡ true → registerOf n a j (freshBoard n K) ≡ empty
-  unfolding registerOf registerPart register readRegister registerValue marked-by
+  unfolding registerOf registerPart readRegister registerValue
   fresh-register a j e =
       ap register (fresh-empty n K a (inside-is K a (T-true _ (and-l (inside K a) (ltb j n) (true-T _ e)))) j (ltb-true j n (T-true _ (and-r (inside K a) (ltb j n) (true-T _ e)))))
 

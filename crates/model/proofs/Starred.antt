@@ -6,9 +6,9 @@ use Rattle.model.specs.Bytes.{number, digits, part, splice, zeros, every
 use Rattle.model.specs.Figure.{figure, figureBytes, sameFigure, above, figures}
 use Rattle.model.specs.Listing.{array, placeArray, placeColumn, accepted, entry, proposed, stay, onward, finish, ended, larger, pairAbove, add, see, move}
 use Rattle.model.specs.Listing.{flagOf, flagNumber}
-use Rattle.model.specs.Layout.{boardLength, rowOf, registerAt, recordAt, freshBoard, readRegister, layRegister, registerFields, registerValue, registerBytes, marked-by, register, gradeNumber, seenNumber}
-use Rattle.model.specs.Layout.{bestIsland, bestFigure, seenOf, writePhase, flagByte, readRecord, layRecord, fields, recordFields, recordValue, recordBytes, writingOf, readingOf}
-use Rattle.model.specs.Layout.{ofPhase, station, registerOf, recordOf, stationOf}
+use Rattle.model.specs.Layout.{boardLength, rowOf, registerAt, recordAt, freshBoard, readRegister, layRegister, registerFields, registerValue, seenNumber}
+use Rattle.model.specs.Layout.{bestIsland, bestFigure, seenOf, writePhase, flagByte, readRecord, layRecord, fields, recordFields, recordValue, writingOf, readingOf}
+use Rattle.model.specs.Layout.{ofPhase, registerOf, recordOf, stationOf}
 use Rattle.model.specs.Sound.{headSound, registerSound, arraySound, registersSound, collecting, phaseKnown, positionInside, islandInside}
 use Rattle.model.specs.Sound.{bestInside, flagKnown, restZero, idleZero, collectZero, bestIslandZero, bestZero, seenKnown, sameRegister}
 use Rattle.model.specs.Sound.{ownWritten, ownSeen, ownPassed, fieldsSound, recordSound, sound}
@@ -17,5 +17,5 @@ use Rattle.model.specs.Calls.{putRegister, notIdle, propose, notGoing, a
 use Rattle.model.specs.Show.{textFrom, text, decimalIn, decimal, signed, standing, status, statuses, shownLine}
 
 pub starred : Starred
-unfolding Starred Holds rows play times proposeAll endOf layIn number digits part splice zeros every implies figure figureBytes sameFigure above figures array placeArray placeColumn accepted entry proposed stay onward finish ended larger pairAbove add see move flagOf flagNumber boardLength rowOf registerAt recordAt freshBoard readRegister layRegister registerFields registerValue registerBytes marked-by register gradeNumber seenNumber bestIsland bestFigure seenOf writePhase flagByte readRecord layRecord fields recordFields recordValue recordBytes writingOf readingOf ofPhase station registerOf recordOf stationOf headSound registerSound arraySound registersSound collecting phaseKnown positionInside islandInside bestInside flagKnown restZero idleZero collectZero bestIslandZero bestZero seenKnown sameRegister ownWritten ownSeen ownPassed fieldsSound recordSound sound unless shapeRefusal stations islands boardRefusal stationRefusal stationAt unlessRefused lay putStation putRegister notIdle propose notGoing access stepped stepOn step ranFrom run textFrom text decimalIn decimal signed standing status statuses shownLine
+unfolding Starred Holds rows play times proposeAll endOf layIn number digits part splice zeros every implies figure figureBytes sameFigure above figures array placeArray placeColumn accepted entry proposed stay onward finish ended larger pairAbove add see move flagOf flagNumber boardLength rowOf registerAt recordAt freshBoard readRegister layRegister registerFields registerValue seenNumber bestIsland bestFigure seenOf writePhase flagByte readRecord layRecord fields recordFields recordValue writingOf readingOf ofPhase registerOf recordOf stationOf headSound registerSound arraySound registersSound collecting phaseKnown positionInside islandInside bestInside flagKnown restZero idleZero collectZero bestIslandZero bestZero seenKnown sameRegister ownWritten ownSeen ownPassed fieldsSound recordSound sound unless shapeRefusal stations islands boardRefusal stationRefusal stationAt unlessRefused lay putStation putRegister notIdle propose notGoing access stepped stepOn step ranFrom run textFrom text decimalIn decimal signed standing status statuses shownLine
 starred = (refl, (refl, (refl, (refl, (refl, (refl, (refl, (refl, (refl, (refl, (refl, (refl, tt))))))))))))

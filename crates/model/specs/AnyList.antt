@@ -1,11 +1,8 @@
 -- Demand 3 as 01 words it under "Any list of calls", about the calls on bytes.
 -- Relies on the calls alone; proofs/Demand3.antt proves `Demand3` for every list.
-use mathlib.Core.Bool.{Bool, true, false}
-use mathlib.Core.List.{List, [], _∷_}
+use Rattle.model.specs.Kit.{Bool, true, false, List, [], _∷_, none, some, ℕ, zero, suc, _+_, _*_, _≤_}
 use mathlib.Core.Logic.{_⊎_}
-use mathlib.Core.Option.{none, some}
 use mathlib.Core.Path.{_≡_}
-use Prim.Native.Nat.{ℕ, zero, suc, _+_, _*_, _≤_}
 use mir.Syntax.{w32}
 use mir.Val.{SFits}
 use Rattle.model.specs.Figure.{Figure}

@@ -1,15 +1,10 @@
 -- The calls: for each, the refusals in 01's order, then the answer and the bytes afterwards, from what is lent and given.
 -- Relies on all definitions but the shown line; every public contract is an equation with one of these.
-use mathlib.Core.Bool.{Bool, true, false, _&&_, cond}
-use mathlib.Core.List.{List, [], _∷_}
-use mathlib.Core.Option.{Option, none, some}
-use Prim.Native.Nat.{ℕ, _+_, _-_}
-use lib.Dec.{eqb, leb}
-use lib.ListN.{length}
+use Rattle.model.specs.Kit.{Bool, true, false, _&&_, cond, List, [], _∷_, Option, none, some, ℕ, _+_, _-_, eqb, leb, length}
 use Rattle.model.specs.Bytes.{byte, splice}
 use Rattle.model.specs.Figure.{Figure, figures}
-use Rattle.model.specs.Listing.{Register, Stage, writing, reading, has-decided, is-spent, Station, idle, active, Answer, refused, accepted, Move, Array, placeArray, placeColumn, proposed, move}
-use Rattle.model.specs.Layout.{boardLength, registerAt, recordAt, freshBoard, registerBytes, recordBytes, registerOf, stationOf}
+use Rattle.model.specs.Listing.{Register, Stage, writing, reading, has-decided, is-spent, Station, idle, active, Answer, refused, accepted, Array, placeArray, placeColumn, proposed, move}
+use Rattle.model.specs.Layout.{boardLength, registerAt, recordAt, freshBoard, layRegister, registerFields, layRecord, recordFields, registerOf, stationOf}
 use Rattle.model.specs.Sound.{sound}
 
 -- What a call answers, and the bytes of the lent board as it returns.
@@ -62,11 +57,11 @@ lay n K b = unlessRefused (shapeRefusal n K b none) some b (record { answer = no
 
 -- The two ways in which an accepted call changes bytes: the record of station index j, and the one register written.
 unfoldable pub putStation : (n K j : ℕ) → Station Figure → List ℕ → List ℕ
-putStation n K j s b = splice (recordAt n K j) (recordBytes s) b
+putStation n K j s b = splice (recordAt n K j) (layRecord (recordFields s)) b
 
 unfoldable pub putRegister : (n : ℕ) → Array → (j : ℕ) → Option (Register Figure) → List ℕ → List ℕ
 putRegister n a j none b = b
-putRegister n a j (some r) b = splice (registerAt n a j) (registerBytes r) b
+putRegister n a j (some r) b = splice (registerAt n a j) (layRegister (registerFields r)) b
 
 -- "13. The station that proposes is not idle."
 unfoldable pub notIdle : Station Figure → Refusal
@@ -89,10 +84,9 @@ notGoing (active v (is-spent c x)) = some 16
 -- An accepted step of the station with index j, proposal v and stage s: the listing's move over the one register at the
 -- stage's place, and nothing else of the board.
 unfoldable pub access : (n K j : ℕ) → Figure → Stage Figure → List ℕ → After (Answer Figure)
-access n K j v s b = done (move figures n K s (registerOf n (placeArray s) (placeColumn j s) b))
-  where
-    done : Move Figure → After (Answer Figure)
-    done m = record { answer = m .answer; bytes = putStation n K j (active v (m .stage)) (putRegister n (placeArray s) j (m .written) b) }
+access n K j v s b =
+    let m = move figures n K s (registerOf n (placeArray s) (placeColumn j s) b) in
+    record { answer = m .answer; bytes = putStation n K j (active v (m .stage)) (putRegister n (placeArray s) j (m .written) b) }
 
 unfoldable pub stepped : (n K j : ℕ) → Station Figure → List ℕ → After (Answer Figure)
 stepped n K j idle b = record { answer = refused 14; bytes = b }

@@ -1,10 +1,6 @@
 -- Figures: signed 32-bit whole numbers, as two's complement bytes, and their order.
 -- Relies on Bytes; the layout, soundness and the calls rely on it.
-use mathlib.Core.Bool.{Bool, false}
-use mathlib.Core.List.{List}
-use Prim.Native.Nat.{ℕ}
-use lib.Dec.{eqb}
-use lib.IntN.{ℤ, pos, negsuc}
+use Rattle.model.specs.Kit.{Bool, false, List, ℕ, eqb, ℤ, pos, negsuc}
 use lib.Signed.{ltZ}
 use mir.Syntax.{w32}
 use mir.Val.{toZ, ofZ}

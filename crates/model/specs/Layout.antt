@@ -1,14 +1,11 @@
 -- The board: where its parts stand, and a register and a record as bytes and back.
 -- Relies on Bytes, Figure and the listing's values; soundness and the calls rely on it. Nothing here knows the algorithm.
-use mathlib.Core.List.{List, [], _∷_, _++_}
-use Prim.Native.Nat.{ℕ, zero, suc, _+_, _*_, _-_}
-use lib.ListN.{replicate}
-use lib.IntN.{pos}
+use Rattle.model.specs.Kit.{List, [], _∷_, _++_, ℕ, zero, suc, _+_, _*_, _-_, replicate, pos}
 use Rattle.model.specs.declared.Record.{Record}
 use Rattle.model.specs.declared.Register as Fields
 use Rattle.model.specs.Bytes.{byte, part}
 use Rattle.model.specs.Figure.{Figure, figure, figureBytes}
-use Rattle.model.specs.Listing.{Turn, turnM, turnA, turnB, Grade, first, second, third, Array, inM, inA, inB, Register, empty, filled, Seen, nothing, seen, writing, reading, has-decided, is-spent, Station, idle, active, flagOf, flagNumber}
+use Rattle.model.specs.Listing.{Turn, turnM, turnA, turnB, first, second, third, Array, inM, inA, inB, Register, empty, filled, Seen, nothing, seen, writing, reading, has-decided, is-spent, Station, idle, active, flagOf, flagNumber}
 
 -- "Length is exactly 8 + 32n + 16nK"
 unfoldable pub boardLength : (n K : ℕ) → ℕ
@@ -44,28 +41,15 @@ unfoldable pub registerFields : Register Figure → Fields.Register
 registerFields empty = record { mark = 0; island = 0; figure = pos 0 }
 registerFields (filled f k v) = record { mark = flagNumber f; island = k; figure = v }
 
-unfoldable pub marked-by : ℕ → (k : ℕ) → Figure → Register Figure
-marked-by zero k v = empty
-marked-by (suc f) k v = filled (flagOf (suc f)) k v
-
 unfoldable pub registerValue : Fields.Register → Register Figure
-registerValue f = marked-by (f .mark) (f .island) (f .figure)
-
-unfoldable pub registerBytes : Register Figure → List ℕ
-registerBytes r = layRegister (registerFields r)
-
-unfoldable pub register : List ℕ → Register Figure
-register r = registerValue (readRegister r)
+registerValue f = elim (f .mark) [ zero ↦ empty | suc m ↦ filled (flagOf (suc m)) (f .island) (f .figure) ]
 
 -- what the collect has seen, as byte 3, byte 4 and bytes 16–19
-unfoldable pub gradeNumber : Grade → ℕ
-gradeNumber first = 1
-gradeNumber second = 2
-gradeNumber third = 3
-
 unfoldable pub seenNumber : Seen Figure → ℕ
 seenNumber nothing = 0
-seenNumber (seen g k y) = gradeNumber g
+seenNumber (seen first k y) = 1
+seenNumber (seen second k y) = 2
+seenNumber (seen third k y) = 3
 
 unfoldable pub bestIsland : Seen Figure → ℕ
 bestIsland nothing = 0
@@ -93,20 +77,26 @@ flagByte turnM = 0
 flagByte turnA = 0
 flagByte (turnB f) = flagNumber f
 
+-- a record by its fields, in the order of its bytes
+abbrev pub asRecord : (phase position island grade highest flag : ℕ) (proposal carried best : Figure) → Record
+asRecord phase position island grade highest flag proposal carried best = record {
+  phase = phase;
+  position = position;
+  island = island;
+  seen = grade;
+  highest = highest;
+  flag = flag;
+  proposal = proposal;
+  carried = carried;
+  best = best;
+}
+
 -- "A record: byte 0 phase; 1 next position to read; 2 island c; 3 seen; 4 best island; 5 flag to write; 6–7 zero; 8–11
 -- proposal; 12–15 carried figure; 16–19 best figure; 20–23 zero."
 unfoldable pub readRecord : List ℕ → Record
-readRecord r = record {
-  phase = byte r 0;
-  position = byte r 1;
-  island = byte r 2;
-  seen = byte r 3;
-  highest = byte r 4;
-  flag = byte r 5;
-  proposal = figure (part 8 4 r);
-  carried = figure (part 12 4 r);
-  best = figure (part 16 4 r);
-}
+readRecord r =
+    asRecord (byte r 0) (byte r 1) (byte r 2) (byte r 3) (byte r 4) (byte r 5)
+    (figure (part 8 4 r)) (figure (part 12 4 r)) (figure (part 16 4 r))
 
 unfoldable pub layRecord : Record → List ℕ
 layRecord f =
@@ -114,17 +104,7 @@ layRecord f =
     ++ figureBytes (f .proposal) ++ figureBytes (f .carried) ++ figureBytes (f .best) ++ replicate 4 0
 
 unfoldable pub fields : (phase p c : ℕ) → Seen Figure → (flag : ℕ) (v x : Figure) → Record
-fields phase p c a flag v x = record {
-  phase = phase;
-  position = p;
-  island = c;
-  seen = seenNumber a;
-  highest = bestIsland a;
-  flag = flag;
-  proposal = v;
-  carried = x;
-  best = bestFigure a;
-}
+fields phase p c a flag v x = asRecord phase p c (seenNumber a) (bestIsland a) flag v x (bestFigure a)
 
 -- "Idle is all zero."
 unfoldable pub recordFields : Station Figure → Record
@@ -154,18 +134,12 @@ ofPhase (suc (suc (suc (suc (suc (suc (suc (suc h)))))))) f = active (f .proposa
 unfoldable pub recordValue : Record → Station Figure
 recordValue f = ofPhase (f .phase) f
 
-unfoldable pub recordBytes : Station Figure → List ℕ
-recordBytes s = layRecord (recordFields s)
-
-unfoldable pub station : List ℕ → Station Figure
-station r = recordValue (readRecord r)
-
 -- the parts of a board by their place
 unfoldable pub registerOf : (n : ℕ) → Array → (j : ℕ) → List ℕ → Register Figure
-registerOf n a j b = register (part (registerAt n a j) 8 b)
+registerOf n a j b = registerValue (readRegister (part (registerAt n a j) 8 b))
 
 unfoldable pub recordOf : (n K j : ℕ) → List ℕ → List ℕ
 recordOf n K j b = part (recordAt n K j) 24 b
 
 unfoldable pub stationOf : (n K j : ℕ) → List ℕ → Station Figure
-stationOf n K j b = station (recordOf n K j b)
+stationOf n K j b = recordValue (readRecord (recordOf n K j b))

@@ -1,10 +1,7 @@
 -- The paper's two algorithms, one access to one register at a time, on values; line numbers are those of the listing in
 -- source 001. Knows nothing of bytes, and of figures only a test of equality and one of order.
 -- The layout, soundness and the calls rely on it, and all of demand 3.
-use mathlib.Core.Bool.{Bool, true, false, cond, _&&_, _||_}
-use mathlib.Core.Option.{Option, none, some}
-use Prim.Native.Nat.{ℕ, zero, suc, _+_}
-use lib.Dec.{eqb, ltb}
+use Rattle.model.specs.Kit.{Bool, true, false, cond, _&&_, _||_, Option, none, some, ℕ, zero, suc, _+_, eqb, ltb}
 
 -- What the listing asks of figures: whether two are the same, and whether the first is above the second.
 pub record Order (F : Type 0) : Type 0 where

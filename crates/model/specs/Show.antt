@@ -1,14 +1,8 @@
 -- The line that `show` hands back: "512 bytes, zeros after the line, and its length".
 -- Relies on the layout and the calls' refusals; the sheet's printed lines rely on its texts and numbers.
-use mathlib.Core.Bool.{cond}
-use mathlib.Core.List.{List, [], _∷_, _++_}
-use mathlib.Core.Option.{none, some}
-use Prim.Native.Nat.{ℕ, zero, suc, _+_, _-_, _/_, _%_}
+use Rattle.model.specs.Kit.{cond, List, [], _∷_, _++_, none, some, ℕ, zero, suc, _+_, _-_, _/_, _%_, leb, ltb, pos, negsuc, length, replicate}
 use Prim.Native.Char.{code}
 use Prim.Native.String.{String, len, charAt}
-use lib.Dec.{leb, ltb}
-use lib.IntN.{pos, negsuc}
-use lib.ListN.{length, replicate}
 use Rattle.model.specs.Figure.{Figure}
 use Rattle.model.specs.Listing.{writing, reading, has-decided, is-spent, Station, idle, active}
 use Rattle.model.specs.Layout.{stationOf}

@@ -1,13 +1,10 @@
 -- Soundness: 01's clauses on the bytes of a board, each a named test, in 01's order and with its words.
 -- Relies on the layout and the listing's values; the calls rely on it.
-use mathlib.Core.Bool.{Bool, true, false, not, _&&_, _||_, cond}
-use mathlib.Core.List.{List}
-use Prim.Native.Nat.{ℕ}
-use lib.Dec.{eqb, leb, ltb}
+use Rattle.model.specs.Kit.{Bool, true, false, not, _&&_, _||_, cond, List, ℕ, eqb, leb, ltb}
 use Rattle.model.specs.Bytes.{byte, part, zeros, every, implies}
 use Rattle.model.specs.Figure.{Figure, figures, sameFigure}
 use Rattle.model.specs.Listing.{Turn, turnM, turnA, turnB, Seen, nothing, seen, Register, empty, filled, writing, reading, has-decided, is-spent, Station, idle, active, Array, inM, inA, inB, array, entry, pairAbove, flagNumber}
-use Rattle.model.specs.Layout.{registerAt, registerOf, recordOf, station}
+use Rattle.model.specs.Layout.{registerAt, registerOf, recordOf, readRecord, recordValue}
 
 -- "Head, 8 bytes: n, K, six zeros."
 unfoldable pub headSound : List ℕ → Bool
@@ -80,14 +77,18 @@ sameRegister empty (filled f k v) = false
 sameRegister (filled f k v) empty = false
 sameRegister (filled f k v) (filled g j w) = eqb (flagNumber f) (flagNumber g) && eqb k j && sameFigure v w
 
--- "In phases 2, 4 and 6 the station's own register holds what the record says it wrote: (c, carried), carried, or (flag,
--- carried)." i is the station's index from 0.
+-- "In phases 2, 4 and 6": a test of a station that collects, passed by every other
+abbrev pub whileReading : (Turn → (c : ℕ) (x : Figure) (p : ℕ) → Seen Figure → Bool) → Station Figure → Bool
+whileReading test idle = true
+whileReading test (active v (writing t c x)) = true
+whileReading test (active v (reading t c x p a)) = test t c x p a
+whileReading test (active v (has-decided c x)) = true
+whileReading test (active v (is-spent c x)) = true
+
+-- "the station's own register holds what the record says it wrote: (c, carried), carried, or (flag, carried)"; i is the
+-- station's index from 0
 unfoldable pub ownWritten : (n i : ℕ) → List ℕ → Station Figure → Bool
-ownWritten n i b idle = true
-ownWritten n i b (active v (writing t c x)) = true
-ownWritten n i b (active v (reading t c x p a)) = sameRegister (registerOf n (array t c) i b) (entry t c x)
-ownWritten n i b (active v (has-decided c x)) = true
-ownWritten n i b (active v (is-spent c x)) = true
+ownWritten n i b s = whileReading (λ t c x p a. sameRegister (registerOf n (array t c) i b) (entry t c x)) s
 
 -- "seen is not 0, and in phases 2 and 4 best is no lower than what it wrote"
 unfoldable pub ownSeen : Turn → (c : ℕ) (x : Figure) → Seen Figure → Bool
@@ -98,11 +99,7 @@ ownSeen (turnB f) c x (seen g k y) = true
 
 -- "Once its own position is passed": the next position is greater than the station's index.
 unfoldable pub ownPassed : (i : ℕ) → Station Figure → Bool
-ownPassed i idle = true
-ownPassed i (active v (writing t c x)) = true
-ownPassed i (active v (reading t c x p a)) = implies (ltb i p) (ownSeen t c x a)
-ownPassed i (active v (has-decided c x)) = true
-ownPassed i (active v (is-spent c x)) = true
+ownPassed i s = whileReading (λ t c x p a. implies (ltb i p) (ownSeen t c x a)) s
 
 unfoldable pub fieldsSound : (n K phase : ℕ) → List ℕ → Bool
 fieldsSound n K phase r =
@@ -110,7 +107,8 @@ fieldsSound n K phase r =
     && restZero phase r && idleZero phase r && collectZero phase r && bestIslandZero phase r && bestZero phase r && seenKnown phase r
 
 unfoldable pub recordSound : (n K i : ℕ) → (b r : List ℕ) → Bool
-recordSound n K i b r = fieldsSound n K (byte r 0) r && ownWritten n i b (station r) && ownPassed i (station r)
+recordSound n K i b r =
+    let s = recordValue (readRecord r) in fieldsSound n K (byte r 0) r && ownWritten n i b s && ownPassed i s
 
 -- "A board that keeps all this is sound"; n and K are its own and its length fits them.
 unfoldable pub sound : (n K : ℕ) → List ℕ → Bool

@@ -1,12 +1,7 @@
 -- The starred runs of 01 as one table: a row is what the definitions give and what 01 says they give.
 -- Relies on the calls and the shown line; proofs/Starred.antt proves the one statement `Starred`.
-use mathlib.Core.Bool.{Bool, true}
-use mathlib.Core.List.{List, [], _∷_, _++_}
-use mathlib.Core.Option.{none, some}
+use Rattle.model.specs.Kit.{Bool, true, List, [], _∷_, _++_, none, some, ℕ, zero, suc, pos, negsuc, length, replicate}
 use mathlib.Core.Path.{_≡_}
-use Prim.Native.Nat.{ℕ, zero, suc}
-use lib.IntN.{pos, negsuc}
-use lib.ListN.{length, replicate}
 use Rattle.model.specs.Figure.{Figure, above}
 use Rattle.model.specs.Layout.{boardLength}
 use Rattle.model.specs.Calls.{After, Refusal, RunAnswer, ran, notRun, lay, propose, run}

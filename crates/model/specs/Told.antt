@@ -1,6 +1,6 @@
 -- What each case of a declared answer says: 01's kind and values, or its refusal number.
 -- Relies on the declared types and the answers of the definitions; every contract of a call relies on it.
-use mathlib.Core.Option.{none, some}
+use Rattle.model.specs.Kit.{none, some}
 use Rattle.model.specs.declared.StepAnswer.{StepAnswer}
 use Rattle.model.specs.declared.StepAnswer.the-variants.{Wrote, Read, Went, Marked, Adopted, Decided, Spent, Refused}
 use Rattle.model.specs.declared.Verdict.{Verdict}

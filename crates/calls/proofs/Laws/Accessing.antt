@@ -12,8 +12,9 @@ use Rattle.model.specs.declared.Register as Fields
 use Rattle.model.specs.Bytes.{part, splice, digits}
 use Rattle.model.specs.Figure.{Figure, figures, figureBytes}
 use Rattle.model.specs.Listing.{Turn, turnM, turnA, turnB, Register, Stage, writing, reading, has-decided, is-spent, active, move, placeArray, placeColumn}
-use Rattle.model.specs.Layout.{registerAt, recordAt, readRegister, layRegister, registerValue, register, layRecord, recordBytes, recordValue, writingOf, readingOf, ofPhase, registerOf}
+use Rattle.model.specs.Layout.{registerAt, recordAt, readRegister, layRegister, registerValue, layRecord, recordValue, writingOf, readingOf, ofPhase, registerOf}
 use Rattle.model.specs.Calls.{putStation, access}
+use Rattle.model.proofs.Board.Codec.{register, recordBytes}
 use Rattle.model.proofs.Basics.Tests.{clash}
 use Rattle.model.proofs.Basics.Splices.{length-splice}
 use Rattle.model.proofs.Board.Places.{InBoard, register-fits, record-inside}
@@ -80,7 +81,7 @@ module _ (n K j : ℕ) (f : Record) (b : List ℕ) (place at : ℕ) (g : Fields.
     (t : Touches n j f place) (eg : g ≡ readRegister (part place 8 b)) (a : Moves n K f g m) (ea : at ≡ recordAt n K j) where
   moved : (s : Stage Figure) → recordValue f ≡ active (f .proposal) s
       → Advanced (f .proposal) (move figures n K s (registerOf n (placeArray s) (placeColumn j s) b)) m
-  unfolding Moves Touches registerOf register
+  unfolding Moves Touches registerOf
   moved s e =
       subst (λ (r : Register Figure). Advanced (f .proposal) (move figures n K s r) m)
       (ap registerValue eg ∙ ap (λ (k : ℕ). registerValue (readRegister (part k 8 b))) (t s e)) (a (f .proposal) s e)
@@ -97,7 +98,7 @@ module _ (n K j : ℕ) (f : Record) (b : List ℕ) (place at : ℕ) (g : Fields.
 
   pub accessed-writing : (e d : List ℕ) → m .writes ≡ true → e ≡ splice place (layRegister (m .register)) b → d ≡ splice at (layRecord (m .station)) e
       → Accesses n K j f b (m .answer) d
-  unfolding Accesses Touches access putStation recordBytes
+  unfolding Accesses Touches access putStation
   accessed-writing e d q ee ed s h =
       let v = moved s h in
       let col = own-column s (v .written) q in
@@ -106,7 +107,7 @@ module _ (n K j : ℕ) (f : Record) (b : List ℕ) (place at : ℕ) (g : Fields.
       (v .answer, ed ∙ (λ i. splice (ea i) (layRecord (v .station i)) (put i)))
 
   pub accessed-reading : (d : List ℕ) → m .writes ≡ false → d ≡ splice at (layRecord (m .station)) b → Accesses n K j f b (m .answer) d
-  unfolding Accesses Touches access putStation recordBytes
+  unfolding Accesses Touches access putStation
   accessed-reading d q ed s h =
       let v = moved s h in
       (v .answer, ed ∙ (λ i. splice (ea i) (layRecord (v .station i)) (sym (put-nothing n (placeArray s) j _ b m (v .written) q) i)))

@@ -11,9 +11,10 @@ use Rattle.model.specs.declared.Verdict.the-variants.{Accepted, Refused}
 use Rattle.model.specs.Bytes.{part, splice}
 use Rattle.model.specs.Figure.{Figure}
 use Rattle.model.specs.Listing.{proposed}
-use Rattle.model.specs.Layout.{recordAt, readRecord, layRecord, recordFields, recordBytes, writingOf, readingOf, ofPhase, recordValue, station, recordOf, stationOf}
+use Rattle.model.specs.Layout.{recordAt, readRecord, layRecord, recordFields, writingOf, readingOf, ofPhase, recordValue, recordOf, stationOf}
 use Rattle.model.specs.Calls.{After, Refusal, stations, islands, boardRefusal, stationRefusal, stationAt, unlessRefused, putStation, notIdle, propose}
 use Rattle.model.specs.Told.{verdict}
+use Rattle.model.proofs.Board.Codec.{recordBytes, station}
 use Rattle.model.proofs.Calls.Refusals.{board-of, board-passes, board-first, OnBoard, station-passes, station-12-low, station-12-high}
 use Rattle.calls.proofs.Laws.Checking.{turned}
 
@@ -47,7 +48,7 @@ module _ (i : ℕ) (v : Figure) (b : List ℕ) where
     module _ (low : 1 ≤ i) (high : i ≤ getD b 0 0) (f : Record)
         (e : f ≡ readRecord (part (recordAt (getD b 0 0) (getD b 1 0) (i - 1)) 24 b)) where
       stands : stationAt i b ≡ recordValue f
-      unfolding stationAt stationOf recordOf station stations islands
+      unfolding stationAt stationOf recordOf stations islands
       stands = ap recordValue (sym e)
 
       on-board : OnBoard i b
@@ -76,7 +77,7 @@ module _ (i : ℕ) (v : Figure) (b : List ℕ) where
 
       pub taken : f .phase ≡ 0 → (at : ℕ) (g : Record) (d : List ℕ) → at ≡ recordAt (getD b 0 0) (getD b 1 0) (i - 1) → g ≡ recordFields (proposed v)
           → d ≡ splice at (layRecord g) b → (verdict Accepted ≡ propose i v b .answer) × (d ≡ propose i v b .bytes)
-      unfolding propose unlessRefused verdict recordValue ofPhase notIdle putStation recordBytes stations islands
+      unfolding propose unlessRefused verdict recordValue ofPhase notIdle putStation stations islands
       taken h at g d ea eg ed =
           let q = sym (passes ∙ ap (λ (k : ℕ). notIdle (ofPhase k f)) h) in (
             ap (λ (r : Refusal). unlessRefused r some b (done i v b) .answer) q,

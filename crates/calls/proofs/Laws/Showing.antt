@@ -14,10 +14,11 @@ use Rattle.model.specs.declared.Verdict.the-variants.{Accepted, Refused}
 use Rattle.model.specs.Bytes.{part}
 use Rattle.model.specs.Figure.{Figure}
 use Rattle.model.specs.Listing.{Station}
-use Rattle.model.specs.Layout.{recordAt, readRecord, recordValue, station, recordOf, stationOf}
+use Rattle.model.specs.Layout.{recordAt, readRecord, recordValue, recordOf, stationOf}
 use Rattle.model.specs.Calls.{Refusal, stations, islands, boardRefusal, unless}
 use Rattle.model.specs.Show.{text, textFrom, statuses, shownLine, shownAs, show}
 use Rattle.model.specs.Told.{verdict, shownTold}
+use Rattle.model.proofs.Board.Codec.{station}
 use Rattle.model.proofs.Board.Values.{sound-station}
 use Rattle.model.proofs.Calls.Refusals.{Board, board-of, board-passes, board-first, unless-passes}
 use Rattle.shown.specs.declared.line.Line.{Line}
@@ -111,7 +112,7 @@ refused-shown b v k e h = ap (λ (r : Refusal). shownAs r (shownLine b)) (sym (b
 -- the record as the code read it
 pub value-at : (b : List ℕ) (j at : ℕ) (f : Record) → at ≡ recordAt (getD b 0 0) (getD b 1 0) j → f ≡ readRecord (part at 24 b)
     → recordValue f ≡ stationOf (stations b) (islands b) j b
-unfolding stationOf recordOf station stations islands
+unfolding stationOf recordOf stations islands
 value-at b j at f e q = ap recordValue q ∙ ap (λ (k : ℕ). recordValue (readRecord (part k 24 b))) e
 
 pub record-inside-at : (b : List ℕ) (j at : ℕ) → boardRefusal b none ≡ none → j < getD b 0 0 → at ≡ recordAt (getD b 0 0) (getD b 1 0) j → at + 24 ≤ length b

@@ -13,10 +13,11 @@ use Rattle.model.specs.declared.StepAnswer.the-variants.{Refused}
 use Rattle.model.specs.Bytes.{byte, part}
 use Rattle.model.specs.Figure.{Figure}
 use Rattle.model.specs.Listing.{Station, idle, active, has-decided, is-spent, Answer, refused}
-use Rattle.model.specs.Layout.{boardLength, recordAt, readRecord, ofPhase, recordValue, station, recordOf, stationOf}
+use Rattle.model.specs.Layout.{boardLength, recordAt, readRecord, ofPhase, recordValue, recordOf, stationOf}
 use Rattle.model.specs.Sound.{fieldsSound, recordSound}
 use Rattle.model.specs.Calls.{After, Refusal, stations, islands, boardRefusal, stationRefusal, stationAt, unlessRefused, notGoing, stepped, stepOn}
 use Rattle.model.specs.Told.{told}
+use Rattle.model.proofs.Board.Codec.{station}
 use Rattle.model.proofs.Basics.Tests.{and-l, and-r}
 use Rattle.model.proofs.Basics.Numbers.{Bytes}
 use Rattle.model.proofs.Basics.Splices.{length-part}
@@ -83,7 +84,7 @@ module _ (i : ℕ) (b : List ℕ) (low : 1 ≤ i) (high : i ≤ getD b 0 0) (f :
   on-board = record { low = low; high = high }
 
   stands : stationAt i b ≡ recordValue f
-  unfolding stationAt stationOf recordOf station stations islands
+  unfolding stationAt stationOf recordOf stations islands
   stands = ap recordValue (sym e)
 
   by-phase : (z : Station Figure) (k : ℕ) → recordValue f ≡ z → notGoing z ≡ some k → StepsOn i b (Refused k) b

@@ -10,11 +10,11 @@ use lib.ListN.{length}
 use Rattle.model.specs.Bytes.{byte, part, splice}
 use Rattle.model.specs.Figure.{Figure}
 use Rattle.model.specs.Listing.{Register, Station, Array}
-use Rattle.model.specs.Layout.{boardLength, registerAt, recordAt, registerBytes, recordBytes, recordOf}
+use Rattle.model.specs.Layout.{boardLength, registerAt, recordAt, recordOf}
 use Rattle.model.specs.Calls.{putStation, putRegister}
 use Rattle.model.proofs.Basics.Splices.{length-splice, byte-before, part-same, part-before, part-after}
 use Rattle.model.proofs.Board.Places.{InBoard, head-first, register-inside, record-inside, register-fits, head-before-records, records-apart, registers-apart}
-use Rattle.model.proofs.Board.Codec.{length-register, length-record}
+use Rattle.model.proofs.Board.Codec.{registerBytes, recordBytes, length-register, length-record}
 
 -- the register of array a and station index j, as bytes
 unfoldable pub registerPart : (n : ℕ) → Array → (j : ℕ) → List ℕ → List ℕ

@@ -1,5 +1,5 @@
 -- Encoding after decoding is the identity on sound registers and records, bytes being bytes.
--- Relies on Numbers, Splices, Good and soundness's clauses; it says that a sound part has one meaning and one form.
+-- Relies on Codec, Numbers, Splices, Good and soundness's clauses; it says that a sound part has one meaning and one form.
 use mathlib.Core.Path.{_≡_, refl, sym, ap, _∙_, subst}
 use mathlib.Core.Bool.{Bool, false, cond, _&&_, _||_}
 use mathlib.Core.Logic.{⊎-elim}
@@ -14,9 +14,10 @@ use Rattle.model.specs.Figure.{Figure, figure, figureBytes}
 use Rattle.model.specs.Listing.{Flag, adopt, commit, filled}
 use Rattle.model.specs.Listing.{Seen, nothing}
 use Rattle.model.specs.Listing.{flagOf, flagNumber}
-use Rattle.model.specs.Layout.{layRegister, readRegister, registerFields, registerValue, registerBytes, marked-by, register, gradeNumber, seenNumber, bestIsland, bestFigure, seenOf, writePhase, flagByte}
-use Rattle.model.specs.Layout.{readRecord, layRecord, fields, recordFields, recordValue, recordBytes, writingOf, readingOf, ofPhase, station}
+use Rattle.model.specs.Layout.{layRegister, readRegister, registerFields, registerValue, seenNumber, bestIsland, bestFigure, seenOf, writePhase, flagByte}
+use Rattle.model.specs.Layout.{readRecord, layRecord, fields, recordFields, recordValue, writingOf, readingOf, ofPhase}
 use Rattle.model.specs.Sound.{registerSound, collecting, phaseKnown, flagKnown, restZero, idleZero, collectZero, bestIslandZero, bestZero, seenKnown, fieldsSound}
+use Rattle.model.proofs.Board.Codec.{registerBytes, marked-by, register, recordBytes, station}
 use Rattle.model.proofs.Basics.Tests.{and-l, and-r, or-case, zeros-is, implies-use}
 use Rattle.model.proofs.Basics.Numbers.{Bytes, bytes-figure}
 use Rattle.model.proofs.Basics.Splices.{length-part}
@@ -32,7 +33,7 @@ register-parts r e =
 
 module _ (marks islands : ℕ) (low : marks ≤ 2) (r : List ℕ) (e : length r ≡ 8) (bytes : Bytes r) where
   filled-parts : (f : Flag) → byte r 0 ≡ flagNumber f → T (zeros (part 2 2 r)) → registerBytes (filled f (byte r 1) (figure (part 4 4 r))) ≡ r
-  unfolding registerBytes layRegister registerFields
+  unfolding layRegister registerFields
   filled-parts f h z =
       (λ i. sym h i ∷ byte r 1 ∷ sym (zero-at 2 2 r (omega arith) z 0 (lit≤ tt)) i ∷ sym (zero-at 2 2 r (omega arith) z 1 (lit≤ tt)) i
       ∷ bytes-figure (part 4 4 r) (length-part 4 4 r (omega arith)) (part-Bytes 4 4 r bytes) i)
@@ -50,14 +51,14 @@ module _ (marks islands : ℕ) (low : marks ≤ 2) (r : List ℕ) (e : length r 
       omega arith
 
   marked : (h : ℕ) → byte r 0 ≡ h → T (registerSound marks islands r) → registerBytes (marked-by h (byte r 1) (figure (part 4 4 r))) ≡ r
-  unfolding marked-by flagOf registerBytes layRegister registerFields figureBytes digits flagNumber
+  unfolding flagOf layRegister registerFields figureBytes digits flagNumber
   marked zero q t = sym (zeros-is r (at-mark 0 q t) ∙ ap (λ (k : ℕ). replicate k 0) e)
   marked (suc zero) q t = filled-parts adopt q (let s = at-mark 1 q t in search (and-l, and-r))
   marked (suc (suc zero)) q t = filled-parts commit q (let s = at-mark 2 q t in search (and-l, and-r))
   marked (suc (suc (suc k))) q t = absurd (above-two k q t)
 
   pub bytes-register : T (registerSound marks islands r) → registerBytes (register r) ≡ r
-  unfolding register registerValue readRegister
+  unfolding registerValue readRegister
   bytes-register t = marked (byte r 0) refl t
 
 -- ---- records
@@ -100,7 +101,7 @@ module _ (r : List ℕ) (e : length r ≡ 24) (bytes : Bytes r) where
 
 -- what the seen fields decode to encodes to them
 seen-number : (g k : ℕ) (y : Figure) → g ≤ 3 → seenNumber (seenOf g k y) ≡ g
-unfolding seenOf seenNumber gradeNumber
+unfolding seenOf seenNumber
 seen-number zero k y h = refl
 seen-number (suc zero) k y h = refl
 seen-number (suc (suc zero)) k y h = refl
@@ -197,7 +198,7 @@ idle-form = refl
 -- by the phase
 module _ (n K : ℕ) (r : List ℕ) (e : length r ≡ 24) (bytes : Bytes r) where
   phase-canon : (phase : ℕ) → phase ≡ byte r 0 → T (fieldsSound n K phase r) → recordBytes (ofPhase phase (readRecord r)) ≡ r
-  unfolding readRecord recordFields ofPhase writingOf readingOf recordBytes writePhase flagByte flagKnown idleZero seenKnown implies phaseKnown collecting
+  unfolding readRecord recordFields ofPhase writingOf readingOf writePhase flagByte flagKnown idleZero seenKnown implies phaseKnown collecting
   phase-canon zero h t = idle-form ∙ sym (zeros-is r (idle-fact n K 0 r t) ∙ ap (λ (k : ℕ). replicate k 0) e)
   phase-canon (suc zero) h t = resting-parts n K 1 r e bytes h t refl refl 0 (sym (eqb→eq (byte r 5) 0 (flag-fact n K 1 r t)))
   phase-canon (suc (suc zero)) h t =
@@ -213,5 +214,5 @@ module _ (n K : ℕ) (r : List ℕ) (e : length r ≡ 24) (bytes : Bytes r) wher
   phase-canon (suc (suc (suc (suc (suc (suc (suc (suc (suc k))))))))) h t = absurd (above-eight k (known-fact n K (suc (suc (suc (suc (suc (suc (suc (suc (suc k))))))))) r t))
 
   pub bytes-station : T (fieldsSound n K (byte r 0) r) → recordBytes (station r) ≡ r
-  unfolding station recordValue readRecord
+  unfolding recordValue readRecord
   bytes-station t = phase-canon (byte r 0) refl t

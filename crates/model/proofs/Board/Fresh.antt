@@ -10,13 +10,13 @@ use lib.Seq.{ext-getD}
 use Rattle.model.specs.Bytes.{byte, part, zeros, digits}
 use Rattle.model.specs.Figure.{figureBytes}
 use Rattle.model.specs.Listing.{idle, Array}
-use Rattle.model.specs.Layout.{boardLength, registerAt, recordAt, freshBoard, fields, recordFields, layRecord, seenNumber, bestIsland, bestFigure, recordBytes, recordOf}
+use Rattle.model.specs.Layout.{boardLength, registerAt, recordAt, freshBoard, fields, recordFields, layRecord, seenNumber, bestIsland, bestFigure, recordOf}
 use Rattle.model.specs.Sound.{headSound, registerSound, ownWritten, ownPassed, recordSound}
 use Rattle.model.proofs.Basics.Tests.{zeros-replicate}
 use Rattle.model.proofs.Basics.Splices.{length-part, byte-part}
 use Rattle.model.proofs.Board.Places.{InBoard, register-fits, record-inside, head-first, head-before-records}
 use Rattle.model.proofs.Board.Boards.{registerPart}
-use Rattle.model.proofs.Board.Codec.{FitsStation}
+use Rattle.model.proofs.Board.Codec.{recordBytes, FitsStation}
 use Rattle.model.proofs.Board.Good.{GoodStation}
 use Rattle.model.proofs.Board.SoundFacts.{registerTest, SoundBoard}
 use Rattle.model.proofs.Board.Values.{SoundStation}
@@ -48,7 +48,7 @@ module _ (n K : ℕ) where
   empty-sound a = tt
 
   pub fresh-idle : (i : ℕ) → i < n → recordOf n K i (freshBoard n K) ≡ recordBytes idle
-  unfolding recordOf recordBytes recordFields fields layRecord seenNumber bestIsland bestFigure figureBytes digits
+  unfolding recordOf recordFields fields layRecord seenNumber bestIsland bestFigure figureBytes digits
   fresh-idle i h = part-fresh (recordAt n K i) 24 (omega (arith, head-before-records n K i)) (record-inside n K i h)
 
   pub fresh-empty : (a : Array) → InBoard K a → (j : ℕ) → j < n → registerPart n a j (freshBoard n K) ≡ replicate 8 0

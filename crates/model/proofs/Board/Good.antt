@@ -12,10 +12,11 @@ use Rattle.model.specs.Figure.{Figure, figureBytes}
 use Rattle.model.specs.Listing.{Flag, adopt, commit, Turn, turnM, turnA, turnB, first, second, third}
 use Rattle.model.specs.Listing.{Seen, nothing, seen, Stage, writing, reading, has-decided, is-spent, Station, idle, active}
 use Rattle.model.specs.Listing.{flagNumber}
-use Rattle.model.specs.Layout.{gradeNumber, seenNumber, bestIsland, bestFigure, seenOf, writePhase, flagByte, layRecord, fields, recordFields, recordBytes}
+use Rattle.model.specs.Layout.{seenNumber, bestIsland, bestFigure, seenOf, writePhase, flagByte, layRecord, fields, recordFields}
 use Rattle.model.specs.Layout.{readRecord, writingOf, readingOf, ofPhase}
 use Rattle.model.specs.Sound.{collecting, phaseKnown, positionInside, islandInside, bestInside, flagKnown, restZero, idleZero, collectZero}
 use Rattle.model.specs.Sound.{bestIslandZero, bestZero, seenKnown, fieldsSound}
+use Rattle.model.proofs.Board.Codec.{recordBytes}
 use Rattle.model.proofs.Basics.Tests.{and-l, and-r}
 
 -- what the seen fields may be in a turn: the grades of 01's table, and a best island below K in m and 0 elsewhere
@@ -106,7 +107,7 @@ flag-known commit = refl
 -- and back: a good station encodes to a record whose fields pass
 pub good-fields : (n K : ℕ) → 0 < n → 0 < K → (s : Station Figure) → GoodStation n K s
     → fieldsSound n K (byte (recordBytes s) 0) (recordBytes s) ≡ true
-unfolding GoodStation GoodStage GoodSeen fieldsSound phaseKnown positionInside islandInside bestInside flagKnown restZero idleZero collectZero bestIslandZero bestZero seenKnown collecting implies zeros part recordBytes recordFields fields layRecord writePhase flagByte seenNumber gradeNumber bestIsland bestFigure figureBytes digits
+unfolding GoodStation GoodStage GoodSeen fieldsSound phaseKnown positionInside islandInside bestInside flagKnown restZero idleZero collectZero bestIslandZero bestZero seenKnown collecting implies zeros part recordFields fields layRecord writePhase flagByte seenNumber bestIsland bestFigure figureBytes digits
 good-fields n K hn hK idle h = simp (lt-ltb 0 n hn, lt-ltb 0 K hK)
 good-fields n K hn hK (active v (writing turnM c x)) h = simp (lt-ltb 0 n hn, lt-ltb 0 K hK, lt-ltb c K h)
 good-fields n K hn hK (active v (writing turnA c x)) h = simp (lt-ltb 0 n hn, lt-ltb 0 K hK, lt-ltb c K h)

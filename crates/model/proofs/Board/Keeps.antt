@@ -11,12 +11,12 @@ use lib.Dec.{T, lit≤}
 use Rattle.model.specs.Bytes.{byte, zeros}
 use Rattle.model.specs.Figure.{Figure}
 use Rattle.model.specs.Listing.{Register, writing, reading, has-decided, is-spent, Station, idle, active, Array, array, entry}
-use Rattle.model.specs.Layout.{registerBytes, recordBytes, register, readRecord, recordValue, station, registerOf, recordOf}
+use Rattle.model.specs.Layout.{readRecord, recordValue, registerOf, recordOf}
 use Rattle.model.specs.Sound.{headSound, ownWritten, ownPassed, sameRegister, fieldsSound, recordSound}
 use Rattle.model.specs.Calls.{putStation, putRegister}
 use Rattle.model.proofs.Basics.Tests.{and-l, and-r, and-i, true-T}
 use Rattle.model.proofs.Board.Places.{InBoard, same-place}
-use Rattle.model.proofs.Board.Codec.{FitsStation, station-bytes}
+use Rattle.model.proofs.Board.Codec.{registerBytes, recordBytes, register, station, FitsStation, station-bytes}
 use Rattle.model.proofs.Board.Boards.{registerPart, station-length, station-before, station-same, station-other, station-register}
 use Rattle.model.proofs.Board.Boards.{register-length, register-before, register-same, register-other, register-record}
 use Rattle.model.proofs.Board.Good.{GoodStation, GoodStage, fields-good, good-fields}
@@ -40,7 +40,7 @@ own-written-as n K j b d e (active v (is-spent c x)) g = refl
 -- so a record stays sound where neither it nor its station's registers change
 record-as : (n K j : ℕ) (b d r : List ℕ) → ((a : Array) → InBoard K a → registerPart n a j d ≡ registerPart n a j b)
     → T (recordSound n K j b r) → T (recordSound n K j d r)
-unfolding recordSound station recordValue readRecord
+unfolding recordSound recordValue readRecord
 record-as n K j b d r e t =
     and-i (fieldsSound n K (byte r 0) r && ownWritten n j d (station r)) (ownPassed j (station r))
     (and-i (fieldsSound n K (byte r 0) r) (ownWritten n j d (station r)) fields

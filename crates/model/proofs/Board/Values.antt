@@ -10,12 +10,12 @@ use Rattle.model.specs.Figure.{Figure, figure, figures, sameFigure}
 use Rattle.model.specs.Listing.{Flag, adopt, commit, Turn, turnM, turnA, turnB, Register, empty, filled, Seen, nothing, seen, Stage, writing, reading, has-decided, is-spent}
 use Rattle.model.specs.Listing.{Station, active, array, entry, placeArray, placeColumn}
 use Rattle.model.specs.Listing.{flagNumber}
-use Rattle.model.specs.Layout.{registerAt, marked-by, readRegister, registerValue, register, seenOf, readRecord, recordValue, writingOf, readingOf, ofPhase, station, registerOf, recordOf, stationOf}
+use Rattle.model.specs.Layout.{registerAt, readRegister, registerValue, seenOf, readRecord, recordValue, writingOf, readingOf, ofPhase, registerOf, recordOf, stationOf}
 use Rattle.model.specs.Sound.{registerSound, sameRegister, ownWritten, ownSeen, ownPassed, fieldsSound, recordSound}
 use Rattle.model.proofs.Basics.Tests.{and-l, and-r, and-i, implies-use}
 use Rattle.model.proofs.Basics.Numbers.{same-is, same-refl}
 use Rattle.model.proofs.Board.Places.{InBoard}
-use Rattle.model.proofs.Board.Codec.{FitsRegister, FitsSeen, FitsStage, FitsStation, figure-Fits}
+use Rattle.model.proofs.Board.Codec.{marked-by, register, station, FitsRegister, FitsSeen, FitsStage, FitsStation, figure-Fits}
 use Rattle.model.proofs.Board.Boards.{registerPart}
 use Rattle.model.proofs.Board.Good.{GoodStation, GoodStage, fields-good}
 use Rattle.model.proofs.Listing.Collect.{Something, Filled, entry-fills, last-read-sees}
@@ -32,12 +32,12 @@ array-inside K (turnB f) c h = h
 -- ---- what is decoded fits 32 bits, whatever the bytes are
 
 marked-Fits : (h k : ℕ) (b : List ℕ) → FitsRegister (marked-by h k (figure b))
-unfolding marked-by FitsRegister
+unfolding FitsRegister
 marked-Fits zero k b = tt
 marked-Fits (suc h) k b = figure-Fits b
 
 pub register-Fits : (r : List ℕ) → FitsRegister (register r)
-unfolding register registerValue readRegister
+unfolding registerValue readRegister
 register-Fits r = marked-Fits (byte r 0) (byte r 1) (part 4 4 r)
 
 seen-Fits : (g k : ℕ) (b : List ℕ) → FitsSeen (seenOf g k (figure b))
@@ -60,7 +60,7 @@ phase-Fits (suc (suc (suc (suc (suc (suc (suc zero))))))) r = (figure-Fits _, fi
 phase-Fits (suc (suc (suc (suc (suc (suc (suc (suc h)))))))) r = (figure-Fits _, figure-Fits _)
 
 pub station-Fits : (r : List ℕ) → FitsStation (station r)
-unfolding station recordValue readRecord
+unfolding recordValue readRecord
 station-Fits r = phase-Fits (byte r 0) r
 
 -- ---- a register is the same as another by the test
@@ -90,24 +90,24 @@ register-same-refl (filled f k v) =
 -- ---- a register's test, on values
 
 read-m : (K h k : ℕ) (v : Figure) (r : List ℕ) → T (cond (eqb h 0) (zeros r) (leb h 1 && ltb k K && zeros (part 2 2 r))) → GoodRead K turnM (marked-by h k v)
-unfolding marked-by GoodRead
+unfolding GoodRead
 read-m K zero k v r t = tt
 read-m K (suc h) k v r t =
     let s = subst (λ (e : Bool). T (cond e (zeros r) (leb (suc h) 1 && ltb k K && zeros (part 2 2 r)))) (eqb·suc-zero h) t in
     ltb→lt k K (search (and-l, and-r))
 
 read-a : (K h k : ℕ) (v : Figure) → GoodRead K turnA (marked-by h k v)
-unfolding marked-by GoodRead
+unfolding GoodRead
 read-a K zero k v = tt
 read-a K (suc h) k v = tt
 
 read-b : (K h k : ℕ) (f : Flag) (v : Figure) → GoodRead K (turnB f) (marked-by h k v)
-unfolding marked-by GoodRead
+unfolding GoodRead
 read-b K zero k f v = tt
 read-b K (suc h) k f v = tt
 
 read-good : (K : ℕ) (t : Turn) (c : ℕ) (r : List ℕ) → T (registerTest K (array t c) r) → GoodRead K t (register r)
-unfolding register registerValue readRegister registerTest registerSound array marksIn islandsIn
+unfolding registerValue readRegister registerTest registerSound array marksIn islandsIn
 read-good K turnM c r t = read-m K (byte r 0) (byte r 1) _ r t
 read-good K turnA c r t = read-a K (byte r 0) (byte r 1) _
 read-good K (turnB f) c r t = read-b K (byte r 0) (byte r 1) f _
@@ -121,7 +121,7 @@ pub record SoundStation (n K i : ℕ) (b : List ℕ) (s : Station Figure) : Type
   pub passed : T (ownPassed i s)
 
 pub sound-station : (n K : ℕ) (b : List ℕ) → SoundBoard n K b → (i : ℕ) → i < n → SoundStation n K i b (stationOf n K i b)
-unfolding stationOf station recordValue readRecord recordSound
+unfolding stationOf recordValue readRecord recordSound
 sound-station n K b s i h = record {
   good = fields-good n K (byte r 0) r (and-l (fieldsSound n K (byte r 0) r) (ownWritten n i b (station r)) all-but);
   written = and-r (fieldsSound n K (byte r 0) r) (ownWritten n i b (station r)) all-but;

@@ -10,11 +10,11 @@ use lib.ListN.{length}
 use borrow.Author.Tests.{lt-ltb, ltb-true, eq-eqb, eqb-true, eqb-false}
 use Rattle.model.specs.Figure.{Figure}
 use Rattle.model.specs.Listing.{Register, empty, Station, idle, Array, inM, inA, inB}
-use Rattle.model.specs.Layout.{boardLength, register, station, registerOf, stationOf}
+use Rattle.model.specs.Layout.{boardLength, registerOf, stationOf}
 use Rattle.model.specs.Calls.{putStation, putRegister}
 use Rattle.model.proofs.Basics.Tests.{and-l, and-r, and-i, true-T, T-true, clash}
 use Rattle.model.proofs.Board.Places.{InBoard}
-use Rattle.model.proofs.Board.Codec.{FitsRegister, FitsStation, register-bytes, station-bytes}
+use Rattle.model.proofs.Board.Codec.{register, station, FitsRegister, FitsStation, register-bytes, station-bytes}
 use Rattle.model.proofs.Board.Boards.{registerPart, station-same, station-other, station-register, register-same, register-other, register-record}
 use Rattle.model.proofs.Agreement.State.{State, put, sameArray, array-is, array-self, putWritten}
 

@@ -1,6 +1,6 @@
 -- Locality: on sound boards a step's answer and the bytes it alters follow from n, K, the station's own record and, where
 -- it reads, the one register that it reads. No other station's record is touched.
--- Relies on Access, Boards, Values and Refusals.
+-- Relies on Codec, Access, Boards, Values and Refusals.
 use mathlib.Core.Path.{_≡_, refl, sym, ap, _∙_}
 use mathlib.Core.List.{List, [], _∷_}
 use mathlib.Core.Option.{Option, none, some}
@@ -11,8 +11,9 @@ use Rattle.model.specs.Bytes.{splice}
 use Rattle.model.specs.Figure.{Figure, figures}
 use Rattle.model.specs.Listing.{Register, empty, Stage, writing, reading, has-decided, is-spent, Station, idle, active, Array, array, entry}
 use Rattle.model.specs.Listing.{Answer, refused, Move, move, placeArray, placeColumn}
-use Rattle.model.specs.Layout.{registerAt, recordAt, registerBytes, recordBytes, station, registerOf, recordOf, stationOf}
+use Rattle.model.specs.Layout.{registerAt, recordAt, registerOf, recordOf, stationOf}
 use Rattle.model.specs.Calls.{After, Refusal, unless, stations, islands, stationRefusal, stationAt, unlessRefused, putStation, putRegister, notGoing, access, stepped, stepOn, step}
+use Rattle.model.proofs.Board.Codec.{registerBytes, recordBytes, station}
 use Rattle.model.proofs.Board.Boards.{station-other, register-length, register-record}
 use Rattle.model.proofs.Board.Good.{GoodStation, GoodStage}
 use Rattle.model.proofs.Board.SoundFacts.{SoundBoard}

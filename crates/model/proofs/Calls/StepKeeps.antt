@@ -14,13 +14,13 @@ use Rattle.model.specs.Figure.{Figure, figures, figureBytes}
 use Rattle.model.specs.Listing.{Flag, adopt, commit, Turn, turnM, turnA, turnB, Grade, first, second, third, Register, Seen, nothing, seen, Stage, writing, reading, has-decided, is-spent}
 use Rattle.model.specs.Listing.{active, array, entry, Move, stay, onward, finish, ended, see, move, placeArray, placeColumn}
 use Rattle.model.specs.Listing.{flagNumber}
-use Rattle.model.specs.Layout.{register, layRegister, registerFields, registerBytes, registerOf}
+use Rattle.model.specs.Layout.{layRegister, registerFields, registerOf}
 use Rattle.model.specs.Sound.{registerSound, sameRegister, ownWritten, ownSeen, ownPassed}
 use Rattle.model.specs.Calls.{putRegister, access}
 use Rattle.model.proofs.Listing.Going.{Going}
 use Rattle.model.proofs.Basics.Tests.{true-T, implies-use, implies-make, cond-case}
 use Rattle.model.proofs.Board.Places.{InBoard, Compared, lower, equal, higher, compared}
-use Rattle.model.proofs.Board.Codec.{Fits, FitsSeen, FitsRegister, FitsStage, FitsStation, register-bytes}
+use Rattle.model.proofs.Board.Codec.{register, registerBytes, Fits, FitsSeen, FitsRegister, FitsStage, FitsStation, register-bytes}
 use Rattle.model.proofs.Board.Boards.{registerPart, register-same}
 use Rattle.model.proofs.Board.Good.{GoodSeen, GoodStage, GoodStation}
 use Rattle.model.proofs.Listing.OneRead.{own-kept, own-met}
@@ -43,7 +43,7 @@ flag-marks adopt = refl
 flag-marks commit = refl
 
 entry-sound : (K : ℕ) (t : Turn) (c : ℕ) (x : Figure) → c < K → registerTest K (array t c) (registerBytes (entry t c x)) ≡ true
-unfolding registerTest registerSound registerBytes layRegister registerFields entry array marksIn islandsIn zeros part figureBytes digits flagNumber
+unfolding registerTest registerSound layRegister registerFields entry array marksIn islandsIn zeros part figureBytes digits flagNumber
 entry-sound K turnM c x h = simp (lt-ltb c K h)
 entry-sound K turnA c x h = refl
 entry-sound K (turnB f) c x h = simp (flag-marks f, flag-below f)

@@ -19,8 +19,9 @@ use Rattle.model.specs.declared.Register.{Register}
 use Rattle.model.specs.Bytes.{part}
 use Rattle.model.specs.Figure.{Figure, sameFigure}
 use Rattle.model.specs.Listing.{flagOf, flagNumber, Turn, turnM, turnA, turnB, Flag, array, inA, inB, entry, filled}
-use Rattle.model.specs.Layout.{boardLength, rowOf, registerAt, readRegister, registerValue, marked-by, register, registerOf, readingOf}
+use Rattle.model.specs.Layout.{boardLength, rowOf, registerAt, readRegister, registerValue, registerOf, readingOf}
 use Rattle.model.specs.Sound.{sameRegister, ownWritten}
+use Rattle.model.proofs.Board.Codec.{marked-by, register}
 use Rattle.model.proofs.Board.Places.{InBoard, register-fits}
 
 -- ---- flags: 0 and 1 are adopt, the others commit
@@ -67,13 +68,13 @@ same-bits (negsuc a) (negsuc b) h l = go (ℕ-discrete a b)
 -- ---- what a register holds
 marked : (m k : ℕ) (v : Figure) (g : Flag) (j : ℕ) (w : Figure) → (m ≡ 0 → ⊥)
     → eqb (flagNumber (flagOf m)) (flagNumber g) && eqb k j && sameFigure v w ≡ sameRegister (marked-by m k v) (filled g j w)
-unfolding marked-by sameRegister
+unfolding sameRegister
 marked zero k v g j w h = absurd (h refl)
 marked (suc m) k v g j w h = refl
 
 module _ (r : Register) (g j : ℕ) (w : Figure) where
   pub held-empty : r .mark ≡ 0 → false ≡ sameRegister (registerValue r) (filled (flagOf g) j w)
-  unfolding registerValue marked-by sameRegister
+  unfolding registerValue sameRegister
   held-empty e = ap (λ (m : ℕ). sameRegister (marked-by m (r .island) (r .figure)) (filled (flagOf g) j w)) (sym e)
 
   pub held-form : (r .mark ≡ 0 → ⊥)
@@ -89,7 +90,7 @@ written : (t : Turn) (n i : ℕ) (b : List ℕ) (f : Record) (r : Register) (row
     → r ≡ readRegister (part (8 + 8 * (n * row + i)) 8 b)
     → a ≡ sameRegister (registerValue r) (filled (flagOf g) j (toZ w32 (ofZ w32 (f .carried))))
     → a ≡ ownWritten n i b (readingOf t f)
-unfolding ownWritten readingOf registerOf register registerAt
+unfolding ownWritten readingOf registerOf registerAt
 written t n i b f r row g j a h place what er ea =
     ea ∙ (λ q. sameRegister (registerValue (er q)) (filled (flagOf g) j (toZ-ofZ h q)))
     ∙ (λ q. sameRegister (registerValue (readRegister (part (8 + 8 * (n * place q + i)) 8 b))) (what q))

@@ -15,9 +15,10 @@ use mir.Val.{Fits}
 use Rattle.model.specs.declared.Record.{Record}
 use Rattle.model.specs.Bytes.{byte, part, zeros}
 use Rattle.model.specs.Figure.{figure, figureBytes}
-use Rattle.model.specs.Layout.{boardLength, recordAt, recordOf, readRecord, layRecord, recordValue, station}
+use Rattle.model.specs.Layout.{boardLength, recordAt, recordOf, readRecord, layRecord, recordValue}
 use Rattle.model.specs.Sound.{phaseKnown, positionInside, islandInside, bestInside, flagKnown, restZero, idleZero, collectZero, bestIslandZero, bestZero, seenKnown}
 use Rattle.model.specs.Sound.{fieldsSound, ownWritten, ownPassed, recordSound}
+use Rattle.model.proofs.Board.Codec.{station}
 use Rattle.model.proofs.Basics.Numbers.{Bytes}
 use Rattle.model.proofs.Basics.Tests.{and-false, true-T}
 use Rattle.model.proofs.Basics.Parts.{part-Bytes, part-zeros, zero-at}
@@ -133,7 +134,7 @@ module _ {n k i at : ℕ} {b : List ℕ} (p : Placed n k i at b) where
 
       pub record-form : fieldsSound n k (f .phase) (layRecord f) ≡ true
           → ownWritten n i b (recordValue f) && ownPassed i (recordValue f) ≡ recordSound n k i b (recordOf n k i b)
-      unfolding recordSound station
+      unfolding recordSound
       record-form q =
           (λ s. ownWritten n i b (recordValue (same s)) && ownPassed i (recordValue (same s)))
           ∙ ap (λ (x : Bool). x && ownWritten n i b (station (recordOf n k i b)) && ownPassed i (station (recordOf n k i b))) (sym (sym fields-is ∙ q))
