@@ -15,7 +15,7 @@ use Rattle.model.specs.Calls.{putRegister}
 use Rattle.model.specs.Sound.{fieldsSound, positionInside, islandInside}
 use Rattle.model.proofs.Basics.Tests.{and-l, and-r}
 use Rattle.model.proofs.Basics.Numbers.{Bytes}
-use Rattle.model.proofs.Board.Codec.{recordBytes, registerBytes, station, Fits, FitsSeen, FitsStage, FitsStation, bytes-Fits}
+use Rattle.model.proofs.Board.Codec.{recordBytes, station, Fits, FitsSeen, FitsStage, FitsStation, bytes-Fits}
 use Rattle.model.proofs.Board.Values.{station-Fits}
 use Rattle.model.proofs.Board.Canon.{bytes-station}
 use Rattle.archipelago.specs.declared.Moved.{Moved}

@@ -17,7 +17,7 @@ use Rattle.model.specs.Layout.{freshBoard, readRegister, registerValue, 
 use Rattle.model.specs.Calls.{After, Refusal, shapeRefusal, stations, islands, lay}
 use Rattle.model.specs.AnyList.{Call, AllAllowed, Some, Proposes, Steps, Decides, Seat, Among, Once, AsProposed, EachDecides, Ordered, Demand3, AnyList}
 use Rattle.model.proofs.Basics.Tests.{cond-case, true-T, T-true, and-l, and-r}
-use Rattle.model.proofs.Board.Codec.{register, marked-by, station, Fits, FitsStation, station-bytes}
+use Rattle.model.proofs.Board.Codec.{register, station, Fits, FitsStation, station-bytes}
 use Rattle.model.proofs.Board.Boards.{registerPart}
 use Rattle.model.proofs.Board.Fresh.{fresh-idle, fresh-empty}
 use Rattle.model.proofs.Listing.Collect.{Filled}

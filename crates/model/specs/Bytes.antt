@@ -24,6 +24,7 @@ part at len b = take len (drop at b)
 unfoldable pub splice : ℕ → List ℕ → List ℕ → List ℕ
 splice at v b = take at b ++ v ++ drop (at + length v) b
 
+-- "all zero": every byte of a list is 0
 unfoldable pub zeros : List ℕ → Bool
 zeros [] = true
 zeros (x ∷ xs) = eqb x 0 && zeros xs
@@ -33,5 +34,6 @@ unfoldable pub every : ℕ → (ℕ → Bool) → Bool
 every zero f = true
 every (suc k) f = every k f && f k
 
+-- where the first test passes, so does the second
 unfoldable pub implies : Bool → Bool → Bool
 implies a b = not a || b

@@ -28,13 +28,14 @@ shapeRefusal n K b later =
     unless (leb 8 (length b)) 7
     (unless (leb 1 n && leb n 16) 8 (unless (leb 2 K && leb K 64) 9 (unless (eqb (length b) (boardLength n K)) 10 later)))
 
--- "11. The board is not sound." n and K are "from the head".
+-- n and K "from the head"
 unfoldable pub stations : List ℕ → ℕ
 stations b = byte b 0
 
 unfoldable pub islands : List ℕ → ℕ
 islands b = byte b 1
 
+-- 7 to 10, then "11. The board is not sound."
 unfoldable pub boardRefusal : List ℕ → Refusal → Refusal
 boardRefusal b later = shapeRefusal (stations b) (islands b) b (unless (sound (stations b) (islands b) b) 11 later)
 
@@ -68,6 +69,7 @@ unfoldable pub notIdle : Station Figure → Refusal
 notIdle idle = none
 notIdle (active v s) = some 13
 
+-- "A proposal sets an idle station to phase 1", after the board's refusals, 12 and 13.
 unfoldable pub propose : (i : ℕ) → Figure → List ℕ → After Refusal
 propose i v b =
     unlessRefused (boardRefusal b (stationRefusal i b (notIdle (stationAt i b)))) some b
@@ -81,13 +83,15 @@ notGoing (active v (reading t c x p a)) = none
 notGoing (active v (has-decided c x)) = some 15
 notGoing (active v (is-spent c x)) = some 16
 
--- An accepted step of the station with index j, proposal v and stage s: the listing's move over the one register at the
--- stage's place, and nothing else of the board.
+-- "Each step moves one station on by a single register and touches no other station's record." An accepted step of the
+-- station with index j, proposal v and stage s: the listing's move over the one register at the stage's place.
 unfoldable pub access : (n K j : ℕ) → Figure → Stage Figure → List ℕ → After (Answer Figure)
 access n K j v s b =
     let m = move figures n K s (registerOf n (placeArray s) (placeColumn j s) b) in
-    record { answer = m .answer; bytes = putStation n K j (active v (m .stage)) (putRegister n (placeArray s) j (m .written) b) }
+    let registers = putRegister n (placeArray s) j (m .written) b in
+    record { answer = m .answer; bytes = putStation n K j (active v (m .stage)) registers }
 
+-- the same by the station's record
 unfoldable pub stepped : (n K j : ℕ) → Station Figure → List ℕ → After (Answer Figure)
 stepped n K j idle b = record { answer = refused 14; bytes = b }
 stepped n K j (active v s) b = access n K j v s b
@@ -107,12 +111,13 @@ pub data RunAnswer : Type 0 where
   ran : (taken passed : ℕ) → RunAnswer
   notRun : (number : ℕ) → RunAnswer
 
--- After s steps taken and t passed over, the stations of a list in turn, each lent "the board exactly as the call before
--- left it"; `one` is how each is stepped.
+-- After s steps taken and t passed over, the stations of a list in turn, each lent "the board exactly as the call
+-- before left it"; `one` is how each is stepped.
 unfoldable pub ranFrom : (one : ℕ → List ℕ → After (Answer Figure)) → (s t : ℕ) → List ℕ → List ℕ → After RunAnswer
 ranFrom one s t [] b = record { answer = ran s t; bytes = b }
 ranFrom one s t (i ∷ is) b =
-    let r = one i b in cond (accepted (r .answer)) (ranFrom one (s + 1) t is (r .bytes)) (ranFrom one s (t + 1) is (r .bytes))
+    let r = one i b in
+    cond (accepted (r .answer)) (ranFrom one (s + 1) t is (r .bytes)) (ranFrom one s (t + 1) is (r .bytes))
 
 -- "6. The items expand to more than 65,536 steps.", then the board's own refusals
 unfoldable pub run : (is : List ℕ) → List ℕ → After RunAnswer

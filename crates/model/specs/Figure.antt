@@ -19,6 +19,7 @@ figure b = toZ w32 (number b)
 unfoldable pub figureBytes : Figure → List ℕ
 figureBytes v = digits 4 (ofZ w32 v)
 
+-- "one figure only", "different figures"
 unfoldable pub sameFigure : Figure → Figure → Bool
 sameFigure (pos a) (pos b) = eqb a b
 sameFigure (pos a) (negsuc b) = false
@@ -29,5 +30,6 @@ sameFigure (negsuc a) (negsuc b) = eqb a b
 unfoldable pub above : Figure → Figure → Bool
 above x y = ltZ y x
 
+-- what the listing asks of figures
 unfoldable pub figures : Order Figure
 figures = record { same = sameFigure; above = above }

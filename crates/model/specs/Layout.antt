@@ -33,6 +33,7 @@ freshBoard n K = n ∷ K ∷ replicate (boardLength n K - 2) 0
 unfoldable pub readRegister : List ℕ → Fields.Register
 readRegister r = record { mark = byte r 0; island = byte r 1; figure = figure (part 4 4 r) }
 
+-- and the bytes of such fields
 unfoldable pub layRegister : Fields.Register → List ℕ
 layRegister f = f .mark ∷ f .island ∷ 0 ∷ 0 ∷ figureBytes (f .figure)
 
@@ -41,10 +42,11 @@ unfoldable pub registerFields : Register Figure → Fields.Register
 registerFields empty = record { mark = 0; island = 0; figure = pos 0 }
 registerFields (filled f k v) = record { mark = flagNumber f; island = k; figure = v }
 
+-- and back: a register whose mark is 0 is empty
 unfoldable pub registerValue : Fields.Register → Register Figure
 registerValue f = elim (f .mark) [ zero ↦ empty | suc m ↦ filled (flagOf (suc m)) (f .island) (f .figure) ]
 
--- what the collect has seen, as byte 3, byte 4 and bytes 16–19
+-- what the collect has seen, as "3 seen", "4 best island" and "16–19 best figure"
 unfoldable pub seenNumber : Seen Figure → ℕ
 seenNumber nothing = 0
 seenNumber (seen first k y) = 1
@@ -59,6 +61,7 @@ unfoldable pub bestFigure : Seen Figure → Figure
 bestFigure nothing = pos 0
 bestFigure (seen g k y) = y
 
+-- and back
 unfoldable pub seenOf : ℕ → (k : ℕ) → Figure → Seen Figure
 seenOf zero k y = nothing
 seenOf (suc zero) k y = seen first k y
@@ -78,18 +81,9 @@ flagByte turnA = 0
 flagByte (turnB f) = flagNumber f
 
 -- a record by its fields, in the order of its bytes
-abbrev pub asRecord : (phase position island grade highest flag : ℕ) (proposal carried best : Figure) → Record
-asRecord phase position island grade highest flag proposal carried best = record {
-  phase = phase;
-  position = position;
-  island = island;
-  seen = grade;
-  highest = highest;
-  flag = flag;
-  proposal = proposal;
-  carried = carried;
-  best = best;
-}
+abbrev pub asRecord : (phase position island seen highest flag : ℕ) (proposal carried best : Figure) → Record
+asRecord h p c g k f v x y =
+    record { phase = h; position = p; island = c; seen = g; highest = k; flag = f; proposal = v; carried = x; best = y }
 
 -- "A record: byte 0 phase; 1 next position to read; 2 island c; 3 seen; 4 best island; 5 flag to write; 6–7 zero; 8–11
 -- proposal; 12–15 carried figure; 16–19 best figure; 20–23 zero."
@@ -98,11 +92,13 @@ readRecord r =
     asRecord (byte r 0) (byte r 1) (byte r 2) (byte r 3) (byte r 4) (byte r 5)
     (figure (part 8 4 r)) (figure (part 12 4 r)) (figure (part 16 4 r))
 
+-- and the bytes of such fields
 unfoldable pub layRecord : Record → List ℕ
 layRecord f =
     (f .phase ∷ f .position ∷ f .island ∷ f .seen ∷ f .highest ∷ f .flag ∷ 0 ∷ 0 ∷ [])
     ++ figureBytes (f .proposal) ++ figureBytes (f .carried) ++ figureBytes (f .best) ++ replicate 4 0
 
+-- the fields of a station's record, with position p, island c, what was seen a, proposal v and carried figure x
 unfoldable pub fields : (phase p c : ℕ) → Seen Figure → (flag : ℕ) (v x : Figure) → Record
 fields phase p c a flag v x = asRecord phase p c (seenNumber a) (bestIsland a) flag v x (bestFigure a)
 
@@ -114,6 +110,7 @@ recordFields (active v (reading t c x p a)) = fields (writePhase t + 1) p c a (f
 recordFields (active v (has-decided c x)) = fields 7 0 c nothing 0 v x
 recordFields (active v (is-spent c x)) = fields 8 0 c nothing 0 v x
 
+-- and back, by the phase
 unfoldable pub writingOf : Turn → Record → Station Figure
 writingOf t f = active (f .proposal) (writing t (f .island) (f .carried))
 
@@ -134,7 +131,7 @@ ofPhase (suc (suc (suc (suc (suc (suc (suc (suc h)))))))) f = active (f .proposa
 unfoldable pub recordValue : Record → Station Figure
 recordValue f = ofPhase (f .phase) f
 
--- the parts of a board by their place
+-- "n registers, one per station", "n station records": the one of station index j
 unfoldable pub registerOf : (n : ℕ) → Array → (j : ℕ) → List ℕ → Register Figure
 registerOf n a j b = registerValue (readRegister (part (registerAt n a j) 8 b))
 

@@ -8,14 +8,15 @@ pub record Order (F : Type 0) : Type 0 where
   pub same : F → F → Bool
   pub above : F → F → Bool
 
+-- "5 flag to write, 1 adopt or 2 commit"
 pub data Flag : Type 0 where
   adopt commit : Flag
 
--- "1 adopt or 2 commit"
 unfoldable pub flagNumber : Flag → ℕ
 flagNumber adopt = 1
 flagNumber commit = 2
 
+-- and the flag of a number
 unfoldable pub flagOf : ℕ → Flag
 flagOf zero = adopt
 flagOf (suc zero) = adopt
@@ -26,7 +27,8 @@ pub data Register (F : Type 0) : Type 0 where
   empty : Register F
   filled : (mark : Flag) (island : ℕ) (figure : F) → Register F
 
--- A pass of the loop has three turns, each a write and then a collect of one array: the paper's steps R, A and B.
+-- "1 write m, 2 read m, 3 write A, 4 read A, 5 write B, 6 read B": a pass of the loop has three turns, each a write and
+-- then a collect of one array, the paper's steps R, A and B.
 pub data Turn : Type 0 where
   turnM turnA : Turn
   turnB : Flag → Turn
@@ -37,18 +39,19 @@ pub data Turn : Type 0 where
 pub data Grade : Type 0 where
   first second third : Grade
 
--- What a collect has seen so far: nothing, or a grade with the best island and the best figure.
+-- What a collect has seen so far: nothing, or a grade with the "best island" and the "best figure".
 pub data Seen (F : Type 0) : Type 0 where
   nothing : Seen F
   seen : Grade → (island : ℕ) (figure : F) → Seen F
 
--- Where a station stands: phases 1 to 8 of its record. c is its island, x the carried figure, p the next position.
+-- Where a station stands: phases 1 to 8 of its record. c is "island c", x the "carried figure", p the "next position to
+-- read".
 pub data Stage (F : Type 0) : Type 0 where
   writing : Turn → (c : ℕ) (x : F) → Stage F
   reading : Turn → (c : ℕ) (x : F) (p : ℕ) → Seen F → Stage F
   has-decided is-spent : (c : ℕ) (x : F) → Stage F
 
--- A station's record; the field's term is the local state of a process. v is the proposal.
+-- A station's record, "0 idle" or with its "proposal" v; the field's term is the local state of a process.
 pub data Station (F : Type 0) : Type 0 where
   idle : Station F
   active : (v : F) → Stage F → Station F
@@ -61,7 +64,8 @@ pub data Answer (F : Type 0) : Type 0 where
   adopted decided spent : (c : ℕ) (x : F) → Answer F
   refused : (number : ℕ) → Answer F
 
--- What one access does: where the station stands after it, what it wrote, if anything, and the answer.
+-- "Each step moves one station on by a single register": where the station stands afterwards, what it wrote, if
+-- anything, and the answer.
 pub record Move (F : Type 0) : Type 0 where
   pub stage : Stage F
   pub written : Option (Register F)
@@ -72,15 +76,15 @@ pub data Array : Type 0 where
   inM : Array
   inA inB : (island : ℕ) → Array
 
--- the array that a turn on island c writes and collects
+-- "to its m", "to its A of island c", "to its B of island c": the array that a turn writes and then collects
 unfoldable pub array : Turn → (c : ℕ) → Array
 array turnM c = inM
 array turnA c = inA c
 array (turnB f) c = inB c
 
 module _ {F : Type 0} where
-  -- The one register that a stage touches next: an array, and there the station's own index i when it writes and the
-  -- next position when it reads. A station that has ended touches none.
+  -- The "single register" that a stage touches next: an array, and there the station's own index i when it writes and
+  -- the "next position to read" when it reads. A station that has ended touches none.
   unfoldable pub placeArray : Stage F → Array
   placeArray (writing t c x) = array t c
   placeArray (reading t c x p a) = array t c
@@ -93,6 +97,7 @@ module _ {F : Type 0} where
   placeColumn i (has-decided c x) = i
   placeColumn i (is-spent c x) = i
 
+  -- "A refusal answers its number only": any other answer is that of a step taken.
   unfoldable pub accepted : Answer F → Bool
   accepted wrote = true
   accepted read = true
@@ -113,13 +118,15 @@ module _ {F : Type 0} where
   unfoldable pub proposed : F → Station F
   proposed v = active v (writing turnM 0 v)
 
+  -- a move that writes nothing
   unfoldable pub stay : Stage F → Answer F → Move F
   stay s a = record { stage = s; written = none; answer = a }
 
-  -- "Otherwise it is adopt: below island K − 1, adopted (c + 1, figure), with that c and phase 1; at island K − 1, spent
-  -- (c, figure)." (lines 13, 14, 28, 29)
+  -- "Otherwise it is adopt: below island K − 1, adopted (c + 1, figure), with that c and phase 1; at island K − 1,
+  -- spent (c, figure)." (lines 13, 14, 28, 29)
   unfoldable pub onward : (K : ℕ) (c : ℕ) (x : F) → Move F
-  onward K c x = cond (ltb (c + 1) K) (stay (writing turnM (c + 1) x) (adopted (c + 1) x)) (stay (is-spent c x) (spent c x))
+  onward K c x =
+      cond (ltb (c + 1) K) (stay (writing turnM (c + 1) x) (adopted (c + 1) x)) (stay (is-spent c x) (spent c x))
 
   -- The collect of m ends: "c and carried become the best pair" (lines 26, 27); the collect of A: "commit if seen is 1,
   -- else adopt; carried becomes best" (lines 7 to 9); the collect of B: "carried becomes best. Seen 2 gives decided"
@@ -133,13 +140,14 @@ module _ {F : Type 0} where
   finish K (turnB f) c second k y = stay (has-decided c y) (decided c y)
   finish K (turnB f) c third k y = onward K c y
 
-  -- A collect that ends with nothing seen does not happen on a sound board (proofs/Listing/Collect.antt, `last-read-sees`);
-  -- here it ends as if the station's own pair had been all there was.
+  -- The end of a collect. One that ends with nothing seen does not happen on a sound board (`last-read-sees` in
+  -- proofs/Listing/Collect.antt); here it ends as if the station's own pair had been all there was.
   unfoldable pub ended : (K : ℕ) → Turn → (c : ℕ) (x : F) → Seen F → Move F
   ended K t c x nothing = finish K t c third c x
   ended K t c x (seen g k y) = finish K t c g k y
 
   module _ (o : Order F) where
+    -- "Best is the largest so far"
     unfoldable pub larger : F → F → F
     larger x y = cond (o .above y x) y x
 

@@ -25,6 +25,7 @@ decimalIn (suc fuel) x = cond (ltb x 10) [] (decimalIn fuel (x / 10)) ++ ((48 + 
 unfoldable pub decimal : ℕ → List ℕ
 decimal x = decimalIn 10 x
 
+-- "no −0": a minus stands before a number that is at least 1
 unfoldable pub signed : Figure → List ℕ
 signed (pos k) = decimal k
 signed (negsuc k) = text "-" ++ decimal (suc k)
@@ -50,11 +51,13 @@ statuses (suc k) n K b = statuses k n K b ++ text " (" ++ decimal (suc k) ++ tex
 unfoldable pub shownLine : List ℕ → List ℕ
 shownLine b = text "(stations" ++ statuses (stations b) (stations b) (islands b) b ++ text ")"
 
+-- "The library hands this line back by value as 512 bytes, zeros after the line, and its length."
 pub record Shown : Type 0 where
   pub refusal : Refusal
   pub line : List ℕ
   pub len : ℕ
 
+-- beside a refusal zeros alone
 unfoldable pub shownAs : Refusal → List ℕ → Shown
 shownAs none l = record { refusal = none; line = l ++ replicate (512 - length l) 0; len = length l }
 shownAs (some k) l = record { refusal = some k; line = replicate 512 0; len = 0 }

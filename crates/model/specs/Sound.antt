@@ -15,6 +15,7 @@ unfoldable pub registerSound : (marks islands : ℕ) → List ℕ → Bool
 registerSound marks islands r =
     cond (eqb (byte r 0) 0) (zeros r) (leb (byte r 0) marks && ltb (byte r 1) islands && zeros (part 2 2 r))
 
+-- "n registers, one per station": all those of one array
 unfoldable pub arraySound : (n marks islands : ℕ) → List ℕ → Array → Bool
 arraySound n marks islands b a = every n λ j. registerSound marks islands (part (registerAt n a j) 8 b)
 
@@ -24,6 +25,7 @@ registersSound n K b = arraySound n 1 K b inM && every K λ c. arraySound n 1 1 
 
 -- The clauses on one record r of a board, at its phase, which is its byte 0.
 module _ (phase : ℕ) (r : List ℕ) where
+  -- "phases 2, 4, 6"
   unfoldable pub collecting : Bool
   collecting = eqb phase 2 || eqb phase 4 || eqb phase 6
 
@@ -71,6 +73,7 @@ module _ (phase : ℕ) (r : List ℕ) where
   unfoldable pub seenKnown : Bool
   seenKnown = leb (byte r 3) (cond (eqb phase 2) 1 (cond (eqb phase 4) 2 3))
 
+-- the same mark, island and figure
 unfoldable pub sameRegister : Register Figure → Register Figure → Bool
 sameRegister empty empty = true
 sameRegister empty (filled f k v) = false
@@ -101,11 +104,13 @@ ownSeen (turnB f) c x (seen g k y) = true
 unfoldable pub ownPassed : (i : ℕ) → Station Figure → Bool
 ownPassed i s = whileReading (λ t c x p a. implies (ltb i p) (ownSeen t c x a)) s
 
+-- all clauses on a record alone
 unfoldable pub fieldsSound : (n K phase : ℕ) → List ℕ → Bool
 fieldsSound n K phase r =
     phaseKnown phase r && positionInside phase r n && islandInside phase r K && bestInside phase r K && flagKnown phase r
     && restZero phase r && idleZero phase r && collectZero phase r && bestIslandZero phase r && bestZero phase r && seenKnown phase r
 
+-- and on its station's own register
 unfoldable pub recordSound : (n K i : ℕ) → (b r : List ℕ) → Bool
 recordSound n K i b r =
     let s = recordValue (readRecord r) in fieldsSound n K (byte r 0) r && ownWritten n i b s && ownPassed i s

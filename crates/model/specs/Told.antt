@@ -24,13 +24,16 @@ told (Decided c v) = decided c v
 told (Spent c v) = spent c v
 told (Refused k) = refused k
 
+-- "A refusal answers its number only"
 unfoldable pub verdict : Verdict → Refusal
 verdict verdicts.Accepted = none
 verdict (verdicts.Refused k) = some k
 
+-- "S steps taken, T steps refused and passed over"
 unfoldable pub runTold : RunVerdict → RunAnswer
 runTold (runs.Ran s t) = ran s t
 runTold (runs.Refused k) = notRun k
 
+-- "by value as 512 bytes, zeros after the line, and its length"
 unfoldable pub shownTold : ShownLine → Shown
 shownTold s = record { refusal = verdict (s .verdict); line = s .bytes; len = s .len }

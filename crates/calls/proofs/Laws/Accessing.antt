@@ -14,7 +14,7 @@ use Rattle.model.specs.Figure.{Figure, figures, figureBytes}
 use Rattle.model.specs.Listing.{Turn, turnM, turnA, turnB, Register, Stage, writing, reading, has-decided, is-spent, active, move, placeArray, placeColumn}
 use Rattle.model.specs.Layout.{registerAt, recordAt, readRegister, layRegister, registerValue, layRecord, recordValue, writingOf, readingOf, ofPhase, registerOf}
 use Rattle.model.specs.Calls.{putStation, access}
-use Rattle.model.proofs.Board.Codec.{register, recordBytes}
+use Rattle.model.proofs.Board.Codec.{register}
 use Rattle.model.proofs.Basics.Tests.{clash}
 use Rattle.model.proofs.Basics.Splices.{length-splice}
 use Rattle.model.proofs.Board.Places.{InBoard, register-fits, record-inside}

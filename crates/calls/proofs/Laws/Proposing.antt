@@ -14,7 +14,6 @@ use Rattle.model.specs.Listing.{proposed}
 use Rattle.model.specs.Layout.{recordAt, readRecord, layRecord, recordFields, writingOf, readingOf, ofPhase, recordValue, recordOf, stationOf}
 use Rattle.model.specs.Calls.{After, Refusal, stations, islands, boardRefusal, stationRefusal, stationAt, unlessRefused, putStation, notIdle, propose}
 use Rattle.model.specs.Told.{verdict}
-use Rattle.model.proofs.Board.Codec.{recordBytes, station}
 use Rattle.model.proofs.Calls.Refusals.{board-of, board-passes, board-first, OnBoard, station-passes, station-12-low, station-12-high}
 use Rattle.calls.proofs.Laws.Checking.{turned}
 

@@ -18,7 +18,6 @@ use Rattle.model.specs.Layout.{recordAt, readRecord, recordValue, recordOf, sta
 use Rattle.model.specs.Calls.{Refusal, stations, islands, boardRefusal, unless}
 use Rattle.model.specs.Show.{text, textFrom, statuses, shownLine, shownAs, show}
 use Rattle.model.specs.Told.{verdict, shownTold}
-use Rattle.model.proofs.Board.Codec.{station}
 use Rattle.model.proofs.Board.Values.{sound-station}
 use Rattle.model.proofs.Calls.Refusals.{Board, board-of, board-passes, board-first, unless-passes}
 use Rattle.shown.specs.declared.line.Line.{Line}

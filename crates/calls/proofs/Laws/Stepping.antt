@@ -17,7 +17,6 @@ use Rattle.model.specs.Layout.{boardLength, recordAt, readRecord, ofPhase, reco
 use Rattle.model.specs.Sound.{fieldsSound, recordSound}
 use Rattle.model.specs.Calls.{After, Refusal, stations, islands, boardRefusal, stationRefusal, stationAt, unlessRefused, notGoing, stepped, stepOn}
 use Rattle.model.specs.Told.{told}
-use Rattle.model.proofs.Board.Codec.{station}
 use Rattle.model.proofs.Basics.Tests.{and-l, and-r}
 use Rattle.model.proofs.Basics.Numbers.{Bytes}
 use Rattle.model.proofs.Basics.Splices.{length-part}

@@ -3,7 +3,7 @@
 use mathlib.Core.Path.{_≡_, refl, ap, _∙_}
 use mathlib.Core.List.{List, [], _∷_, map}
 use Prim.Native.Nat.{ℕ}
-use Rattle.model.specs.Calls.{After, ranFrom, run, step, notRun, RunAnswer, ran}
+use Rattle.model.specs.Calls.{After, run, step, notRun, RunAnswer, ran}
 use Rattle.model.specs.AnyList.{stepping, called}
 use Rattle.model.proofs.Calls.Refusals.{call-case}
 use Rattle.model.proofs.Calls.Runs as runs

@@ -21,7 +21,7 @@ use Rattle.model.specs.Figure.{Figure, sameFigure}
 use Rattle.model.specs.Listing.{flagOf, flagNumber, Turn, turnM, turnA, turnB, Flag, array, inA, inB, entry, filled}
 use Rattle.model.specs.Layout.{boardLength, rowOf, registerAt, readRegister, registerValue, registerOf, readingOf}
 use Rattle.model.specs.Sound.{sameRegister, ownWritten}
-use Rattle.model.proofs.Board.Codec.{marked-by, register}
+use Rattle.model.proofs.Board.Codec.{marked-by}
 use Rattle.model.proofs.Board.Places.{InBoard, register-fits}
 
 -- ---- flags: 0 and 1 are adopt, the others commit
