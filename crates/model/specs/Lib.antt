@@ -8,5 +8,7 @@ pub mod Sound
 pub mod Calls
 pub mod Show
 pub mod Told
+pub mod Forms
+pub mod Sheet
 pub mod AnyList
 pub mod Starred
