@@ -6,4 +6,5 @@ pub mod Stepping
 pub mod Checking
 pub mod Proposing
 pub mod Running
+pub mod Joined
 pub mod Showing

@@ -14,7 +14,7 @@ use model::Verdict;
 use soundness::board::check_board;
 
 // Whether a step was taken: 1, or 0 for a refused one.
-fn taken(answer: StepAnswer) -> u32
+pub fn taken(answer: StepAnswer) -> u32
     ensures { λ r. ⌜ r ≡ counts answer ⌝ }
 {
     match answer {

@@ -23,7 +23,7 @@ use Rattle.shown.proofs.Statuses.{length-standing, length-status}
 
 -- ---- one status
 
-length-signed : (v : Figure) → length (signed v) ≤ 11
+pub length-signed : (v : Figure) → length (signed v) ≤ 11
 unfolding signed text textFrom
 length-signed (pos k) = omega (arith, length-any k)
 length-signed (negsuc k) = omega (arith, length-any (suc k))
@@ -90,7 +90,7 @@ statuses-bound (suc k) n K b h f =
     )
 
 pub line-bound : (b : List ℕ) → stations b ≤ 16 → ((j : ℕ) → j < stations b → islandShown (stationOf (stations b) (islands b) j b) < 100)
-    → length (shownLine b) ≤ 512
+    → length (shownLine b) ≤ 458
 unfolding shownLine text textFrom
 line-bound b h f =
     simp length-append (omega (arith, statuses-bound (stations b) (stations b) (islands b) b (omega arith) f))

@@ -4,3 +4,4 @@ pub mod Decimals
 pub mod Signs
 pub mod Statuses
 pub mod Bounds
+pub mod Answers

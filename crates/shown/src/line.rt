@@ -1,5 +1,5 @@
 // A line of at most 512 bytes, by value, and what is put at its end.
-// Relies on nothing; numbers and statuses rely on it.
+// Relies on nothing; numbers, statuses and the lines of a run sheet rely on it.
 ghost use mathlib.Core.List.{[], _∷_};
 ghost use Prim.Native.Nat.{_+_, _≤_, _<_};
 ghost use lib.ListN.{length};

@@ -1,5 +1,5 @@
 // Numbers as decimal digits: no plus, no leading zero, no −0.
-// Relies on the line; statuses rely on it.
+// Relies on the line; statuses and the lines of a run sheet rely on it.
 use crate::line::Line;
 use crate::line::put_byte;
 ghost use Prim.Native.Nat.{_+_, _≤_};

@@ -40,7 +40,7 @@ begun is b s = record { inside = omega arith; count = refl; below = omega arith;
 one-more : (is : List ℕ) (i : ℕ) → i < length is → take (i + 1) is ≡ take i is ++ (getD is i 0 ∷ [])
 one-more is i h = ap (λ (k : ℕ). take k is) (add-one i) ∙ take-suc is i 0 h
 
-count-below : (a : StepAnswer) → counts a ≤ 1
+pub count-below : (a : StepAnswer) → counts a ≤ 1
 unfolding counts
 count-below a = go (accepted (told a))
   where

@@ -91,12 +91,16 @@ module _ (b : List ℕ) (sound : boardRefusal b none ≡ none) where
   unfolding Opened openTo shownLine
   shown-on line next q p = shown-is next (shownLine b) (p .holds (openTo (stations b) b) q)
 
+  -- there is room behind the line
+  pub line-short : length (shownLine b) ≤ 458
+  line-short = line-bound b (h .shape .stations-high) islands-short
+
   pub shows : shownAs none (shownLine b) ≡ show b
   unfolding show
   shows =
       ap (λ (r : Refusal). shownAs r (shownLine b))
       (sym (board-passes b h (unless (leb (length (shownLine b)) 512) 17 none)
-      ∙ unless-passes (leb (length (shownLine b)) 512) 17 none (le→leb (length (shownLine b)) 512 (line-bound b (h .shape .stations-high) islands-short))))
+      ∙ unless-passes (leb (length (shownLine b)) 512) 17 none (le→leb (length (shownLine b)) 512 (omega (arith, line-short)))))
 
 -- ---- a refused board
 

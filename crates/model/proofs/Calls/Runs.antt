@@ -1,18 +1,19 @@
 -- A run is its single steps one after another, and on a sound board soundness need be tested only once.
 -- Relies on CallsKeep and Refusals; the code's run relies on it.
-use mathlib.Core.Path.{_≡_, refl, ap, _∙_}
+use mathlib.Core.Path.{_≡_, refl, sym, ap, _∙_}
 use mathlib.Core.Bool.{Bool, true, false, cond}
 use mathlib.Core.List.{List, [], _∷_, _++_}
 use mathlib.Core.Option.{Option, none}
-use Prim.Native.Nat.{ℕ, suc, _+_, _≤_}
+use Prim.Native.Nat.{ℕ, suc, _+_, _≤_, _<_}
 use native.Mathlib.Omega.{arith}
 use lib.Dec.{leb, le→leb}
 use lib.ListN.{length}
+use Rattle.model.specs.Bytes.{byte}
 use Rattle.model.specs.Figure.{Figure}
 use Rattle.model.specs.Listing.{Answer, accepted}
 use Rattle.model.specs.Calls.{After, RunAnswer, ran, notRun, ranFrom, run, boardRefusal, unlessRefused, stepOn, step}
 use Rattle.model.proofs.Calls.Refusals.{Board, board-passes, unless-passes, step-on}
-use Rattle.model.proofs.Calls.CallsKeep.{step-keeps}
+use Rattle.model.proofs.Calls.CallsKeep.{step-keeps, step-head}
 
 -- how many of the answers are no refusals
 unfoldable pub taken : List (Answer Figure) → ℕ
@@ -95,10 +96,23 @@ ran-on s t (i ∷ is) b h =
     (λ j. cond (accepted (step i b .answer)) (ran-on (s + 1) t is (step i b .bytes) (step-keeps i b h) j) (ran-on s (t + 1) is (step i b .bytes) (step-keeps i b h) j))
     ∙ ap (λ (a : After (Answer Figure)). cond (accepted (a .answer)) (ranFrom stepOn (s + 1) t is (a .bytes)) (ranFrom stepOn s (t + 1) is (a .bytes))) (step-on i b h)
 
+pub after-on : (is b : List ℕ) → Board b → after step b is ≡ after stepOn b is
+unfolding after
+after-on [] b h = refl
+after-on (i ∷ is) b h =
+    after-on is (step i b .bytes) (step-keeps i b h)
+    ∙ ap (λ (a : After (Answer Figure)). after stepOn (a .bytes) is) (step-on i b h)
+
 pub ran-keeps : (is b : List ℕ) → Board b → Board (after step b is)
 unfolding after
 ran-keeps [] b h = h
 ran-keeps (i ∷ is) b h = ran-keeps is (step i b .bytes) (step-keeps i b h)
+
+-- The head stays as it was.
+pub ran-head : (is b : List ℕ) → Board b → (k : ℕ) → k < 8 → byte (after step b is) k ≡ byte b k
+unfolding after
+ran-head [] b h k l = refl
+ran-head (i ∷ is) b h k l = ran-head is (step i b .bytes) (step-keeps i b h) k l ∙ step-head i b h k l
 
 -- So a run over a sound board tests soundness once.
 pub run-on : (is b : List ℕ) → Board b → length is ≤ 65536 → run is b ≡ ranFrom stepOn 0 0 is b
