@@ -4,9 +4,9 @@ ghost use mathlib.Core.Path.{_≡_};
 ghost use Prim.Native.Nat.{_+_, _*_, _≤_, _<_};
 ghost use Rattle.model.specs.Layout.{boardLength, recordAt};
 
-// "Length is exactly 8 + 32n + 16nK". A run sheet asks for it before n and K are tested, and its numbers end at 99.
+// "Length is exactly 8 + 32n + 16nK". A run sheet asks for it before n and K are tested.
 pub fn board_length(n: usize, k: usize) -> usize
-    requires { ⌜ (n ≤ 99) × (k ≤ 99) ⌝ }
+    requires { ⌜ (n ≤ 255) × (k ≤ 255) ⌝ }
     ensures { λ r. ⌜ r ≡ boardLength n k ⌝ }
 {
     8 + 32 * n + 16 * (n * k)

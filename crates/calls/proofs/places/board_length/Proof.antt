@@ -1,5 +1,5 @@
 -- `places::board_length` meets its contract:
--- no part overflows, since the product is at most that of ninety-nine with itself.
+-- no part overflows, since the product is at most that of 255 with itself.
 use native.Mathlib.Nat.{mul-le-mul}
 use native.Mathlib.Omega.{arith}
 use Rattle.model.specs.Layout.{boardLength}

@@ -1,0 +1,81 @@
+-- `form::too_deep` meets its contract: the loop keeps the brackets counted and the depth of the bytes that are left.
+-- The measure is what is left of the line.
+use mathlib.Core.Path.{_≡_}
+use mathlib.Core.Logic.{⊎-elim}
+use Prim.Native.Nat.{_+_, _-_}
+use native.Mathlib.Omega.{arith}
+use borrow.Author.Needs.{needs}
+use lib.ListN.{length, getD}
+use Rattle.model.specs.Forms.{one}
+use Rattle.sheet.proofs.Laws.Depth.{Passed, one-more, no-more, nothing-passed, still-closed, exceeds, passes, all-passed}
+use Rattle.sheet.proofs.form.too_deep.Statement.{statement}
+use Rattle.sheet.proofs.form.too_deep.Tie as tie
+
+abbrev Inv-loop : tie.InvT-loop
+Inv-loop line opened₀ closed₀ i₀ opened closed i = Passed line opened closed i
+
+abbrev μ-loop : tie.MeasureT-loop
+μ-loop line opened₀ closed₀ i₀ opened closed i = length line - i
+
+-- the opening brackets behind the byte
+opens : (c : tie.Joined1 Inv-loop μ-loop)
+    → c .if1 .opened ≡ c .before .before .before .loop .opened + one 40 (getD (c .before .before .before .before .args .line .now) (c .before .before .before .loop .i) 0)
+opens c = ⊎-elim (λ w. one-more _ _ _ _ (w .0 .taken) (w .1)) (λ w. no-more _ _ _ _ (w .0 .left) (w .1)) (c .if1 .came)
+
+-- the closing ones, likewise
+closes : (c : tie.Joined2 Inv-loop μ-loop)
+    → c .if2 .closed ≡ c .before .before .before .before .loop .closed + one 41 (getD (c .before .before .before .before .before .args .line .now) (c .before .before .before .before .loop .i) 0)
+closes c = ⊎-elim (λ w. one-more _ _ _ _ (w .0 .taken) (w .1)) (λ w. no-more _ _ _ _ (w .0 .left) (w .1)) (c .if2 .came)
+
+loop-holds : tie.Need-loop-holds Inv-loop μ-loop
+loop-holds c = nothing-passed _
+
+shared-slice-read-byte : tie.Need-shared-slice-read-byte Inv-loop μ-loop
+shared-slice-read-byte c = search needs
+
+add-opened : tie.Need-add-opened Inv-loop μ-loop
+add-opened c = search needs
+
+add-closed : tie.Need-add-closed Inv-loop μ-loop
+add-closed c = omega (arith, c .before .before .before .before .loop .inv .closed, c .before .before .before .before .before .pre)
+
+add-if3 : tie.Need-add-if3 Inv-loop μ-loop
+add-if3 c =
+    let few = still-closed _ _ _ _ _ _ (c .before .before .before .before .before .loop .inv) (c .before .before .before .before .loop-test .taken) (opens (c .before .before)) (closes (c .before)) in
+    omega (arith, few, c .before .before .before .before .loop-test .taken, c .before .before .before .before .before .before .pre)
+
+returns : tie.Need-returns Inv-loop μ-loop
+returns c =
+    exceeds _ _ _ _ _ _ (c .before .before .before .before .before .before .loop .inv) (c .before .before .before .before .before .loop-test .taken) (opens (c .before .before .before)) (closes (c .before .before))
+    (c .if3 .taken)
+
+add-i : tie.Need-add-i Inv-loop μ-loop
+add-i c = search needs
+
+loop-less : tie.Need-loop-less Inv-loop μ-loop
+loop-less c = search needs
+
+loop-again : tie.Need-loop-again Inv-loop μ-loop
+loop-again c =
+    passes _ _ _ _ _ _ (c .before .before .before .before .before .before .loop .inv) (c .before .before .before .before .before .loop-test .taken) (opens (c .before .before .before)) (closes (c .before .before))
+    (c .if3 .left)
+
+returns-2 : tie.Need-returns-2 Inv-loop μ-loop
+returns-2 c = all-passed _ _ _ _ (c .before .loop .inv) (c .loop-test .left)
+
+pub too-deep-spec : {M : Type 1} → statement M
+too-deep-spec =
+    tie.close
+    (tie.spec
+    Inv-loop
+    μ-loop
+    loop-holds
+    shared-slice-read-byte
+    add-opened
+    add-closed
+    add-if3
+    returns
+    add-i
+    loop-less
+    loop-again
+    returns-2)

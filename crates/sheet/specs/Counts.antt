@@ -1,0 +1,36 @@
+-- Items as the code reads them: how many steps they stand for, and the place after them.
+-- Relies on the model's items; the contracts of the readers of items rely on it.
+use mathlib.Core.Path.{_≡_}
+use mathlib.Core.List.{List}
+use mathlib.Core.Option.{Option, none, some}
+use Prim.Native.Nat.{ℕ, min, _≤_, _<_}
+use lib.ListN.{length, drop}
+use Rattle.model.specs.Forms.{Item, Items, Read, found, expandItem, expand, itemIn, itemsIn}
+use Rattle.sheet.specs.declared.item.Counted.{Counted}
+use Rattle.sheet.specs.declared.item.Counted.the-variants.{Steps, Missing}
+
+-- "The items expand to more than 65,536 steps.": any such number counts as 65,537
+abbrev pub capped : ℕ → ℕ
+capped x = min x 65537
+
+unfoldable pub countedAt : List ℕ → Counted → Option (Read ℕ)
+countedAt line (Steps c next) = found c (drop next line)
+countedAt line Missing = none
+
+abbrev pub CountedInside : List ℕ → (at : ℕ) → Counted → Type 0
+CountedInside line at (Steps c next) = (at < next) × (next ≤ length line) × (c ≤ 65537)
+CountedInside line at Missing = Unit {0}
+
+-- what was read, by the steps that it expands to
+unfoldable pub sized : {A : Type 0} → (A → List ℕ) → Option (Read A) → Option (Read ℕ)
+sized steps none = none
+sized steps (some r) = found (capped (length (steps (r .value)))) (r .rest)
+
+-- the model's reader agrees whatever its fuel, if that exceeds the bytes left
+pub record ItemIs (line : List ℕ) (at : ℕ) (r : Counted) : Type 0 where
+  pub reads : (fuel : ℕ) → length (drop at line) < fuel → countedAt line r ≡ sized expandItem (itemIn fuel (drop at line))
+  pub inside : CountedInside line at r
+
+pub record ItemsAre (line : List ℕ) (at : ℕ) (r : Counted) : Type 0 where
+  pub reads : (fuel : ℕ) → length (drop at line) < fuel → countedAt line r ≡ sized expand (itemsIn fuel (drop at line))
+  pub inside : CountedInside line at r

@@ -1,0 +1,164 @@
+// A line to its form, or to refusal 2, 3 or 4.
+// Relies on words, numbers and items; the player of run sheets relies on it.
+ghost use mathlib.Core.Path.{_≡_};
+ghost use mathlib.Core.Bool.{true};
+ghost use mathlib.Core.List.{[]};
+ghost use Prim.Native.Nat.{_≤_};
+ghost use lib.ListN.{length, drop};
+ghost use Rattle.model.specs.Forms.{Word, boardWord, proposeWord, stepsWord, showWord, formAfter, formIn, tooDeep, same, orFour, readLine};
+ghost use Rattle.model.specs.Show.{text};
+ghost use Rattle.sheet.specs.Lines.{lineForm};
+use crate::item::Counted;
+use crate::item::items;
+use crate::number::FoundFigure;
+use crate::number::FoundNumber;
+use crate::number::spaced_figure;
+use crate::number::spaced_number;
+use crate::word::FormWord;
+use crate::word::Named;
+use crate::word::first_word;
+use crate::word::form_named;
+
+// A form with its numbers. The items of `steps` stay in the line, from its seventh byte on; `count` is how many steps they
+// stand for, 65,537 for any number above 65,536.
+pub enum LineForm {
+    Board { n: u8, k: u8 },
+    Propose { station: u8, figure: i32 },
+    Steps { count: u32 },
+    Show,
+    Refused { number: u8 },
+}
+
+// Whether opening brackets exceed closing ones by more than 8 at some byte.
+fn too_deep(line: &[u8]) -> bool
+    requires { ⌜ length (now line) ≤ 255 ⌝ }
+    ensures { λ r. ⌜ r ≡ tooDeep 0 0 (now (line .entry)) ⌝ }
+{
+    let mut opened: u32 = 0;
+    let mut closed: u32 = 0;
+    let mut i = 0;
+    while i < line.len() {
+        let byte = line[i];
+        if byte == b'(' {
+            opened += 1;
+        }
+        if byte == b')' {
+            closed += 1;
+        }
+        if closed + 8 < opened {
+            return true;
+        }
+        i += 1;
+    }
+    false
+}
+
+// Whether the line ends with a bracket at `at`.
+fn closes(line: &[u8], at: usize) -> bool
+    requires { ⌜ at ≤ length (now line) ⌝ }
+    ensures { λ r. ⌜ r ≡ same (drop at (now (line .entry))) (text ")") ⌝ }
+{
+    if line.len() - at != 1 {
+        return false;
+    }
+    line[at] == b')'
+}
+
+fn board_form(line: &[u8], at: usize) -> LineForm
+    ensures { λ r. ⌜ r ≡ lineForm (orFour (formAfter boardWord (drop at (now (line .entry))))) ⌝ }
+{
+    let FoundNumber::At {
+        value: n,
+        next: second,
+    } = spaced_number(line, at)
+    else {
+        return LineForm::Refused { number: 4 };
+    };
+    let FoundNumber::At { value: k, next } = spaced_number(line, second) else {
+        return LineForm::Refused { number: 4 };
+    };
+    if closes(line, next) {
+        return LineForm::Board {
+            n: n as u8,
+            k: k as u8,
+        };
+    }
+    LineForm::Refused { number: 4 }
+}
+
+fn propose_form(line: &[u8], at: usize) -> LineForm
+    ensures { λ r. ⌜ r ≡ lineForm (orFour (formAfter proposeWord (drop at (now (line .entry))))) ⌝ }
+{
+    let FoundNumber::At {
+        value: station,
+        next: second,
+    } = spaced_number(line, at)
+    else {
+        return LineForm::Refused { number: 4 };
+    };
+    let FoundFigure::At {
+        value: figure,
+        next,
+    } = spaced_figure(line, second)
+    else {
+        return LineForm::Refused { number: 4 };
+    };
+    if closes(line, next) {
+        return LineForm::Propose {
+            station: station as u8,
+            figure,
+        };
+    }
+    LineForm::Refused { number: 4 }
+}
+
+fn steps_form(line: &[u8], at: usize) -> LineForm
+    ensures { λ r. ⌜ r ≡ lineForm (orFour (formAfter stepsWord (drop at (now (line .entry))))) ⌝ }
+{
+    let Counted::Steps { count, next } = items(line, at) else {
+        return LineForm::Refused { number: 4 };
+    };
+    if next < line.len() {
+        return LineForm::Refused { number: 4 };
+    }
+    LineForm::Steps { count }
+}
+
+fn show_form(line: &[u8], at: usize) -> LineForm
+    requires { ⌜ at ≤ length (now line) ⌝ }
+    ensures { λ r. ⌜ r ≡ lineForm (orFour (formAfter showWord (drop at (now (line .entry))))) ⌝ }
+{
+    if closes(line, at) {
+        return LineForm::Show;
+    }
+    LineForm::Refused { number: 4 }
+}
+
+fn form(line: &[u8]) -> LineForm
+    ensures { λ r. ⌜ r ≡ lineForm (orFour (formIn (now (line .entry)))) ⌝ }
+{
+    let part = first_word(line);
+    let at = part.len() + 1;
+    let Named::Form { word } = form_named(part) else {
+        return LineForm::Refused { number: 4 };
+    };
+    match word {
+        FormWord::Board => board_form(line, at),
+        FormWord::Propose => propose_form(line, at),
+        FormWord::Steps => steps_form(line, at),
+        FormWord::Show => show_form(line, at),
+    }
+}
+
+// A line of any content and length, without its LF.
+pub fn read_line(line: &[u8]) -> LineForm
+    ensures { λ r. ⌜ r ≡ lineForm (readLine (now (line .entry))) ⌝ }
+{
+    if 255 < line.len() {
+        return LineForm::Refused { number: 2 };
+    }
+    if too_deep(line) {
+        return LineForm::Refused { number: 3 };
+    }
+    form(line)
+}

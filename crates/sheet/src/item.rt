@@ -1,0 +1,99 @@
+// The items of `steps`: the reader of an item and the reader of a list of items call each other, and count the steps.
+// Relies on numbers; the reader of a line relies on it.
+ghost use mathlib.Core.Path.{_≡_};
+ghost use Prim.Native.Nat.{_≤_, _<_};
+ghost use lib.ListN.{length};
+ghost use Rattle.sheet.specs.Placed.{TimesIs};
+ghost use Rattle.sheet.specs.Counts.{capped, ItemIs, ItemsAre};
+use crate::number::FoundNumber;
+use crate::number::number;
+
+// How many steps the items stand for, 65,537 for any number above 65,536, and the place after them.
+pub enum Counted {
+    Steps { count: u32, next: usize },
+    Missing,
+}
+
+// The lesser of a count and 65,537, so that no count can wrap.
+fn cap(count: u64) -> u32
+    ensures { λ r. ⌜ r ≡ capped count ⌝ }
+{
+    if 65536 < count {
+        return 65537;
+    }
+    count as u32
+}
+
+// "(times " at `at`, the number behind it, and the space of the first item, at the next place.
+pub fn times(line: &[u8], at: usize) -> FoundNumber
+    ensures { λ r. ⌜ TimesIs (now (line .entry)) at r ⌝ }
+{
+    if line.len() < at {
+        return FoundNumber::Missing;
+    }
+    if line.len() - at < 7 {
+        return FoundNumber::Missing;
+    }
+    let digits = at + 7;
+    if check::same(&line[at..digits], b"(times ") {
+        let FoundNumber::At { value, next } = number(line, digits, 1, 99999) else {
+            return FoundNumber::Missing;
+        };
+        if line.len() <= next {
+            return FoundNumber::Missing;
+        }
+        if line[next] == b' ' {
+            return FoundNumber::At { value, next };
+        }
+    }
+    FoundNumber::Missing
+}
+
+fn item(line: &[u8], at: usize) -> Counted
+    ensures { λ r. ⌜ ItemIs (now (line .entry)) at r ⌝ }
+{
+    if line.len() <= at {
+        return Counted::Missing;
+    }
+    if line[at] != b'(' {
+        let FoundNumber::At { value: _, next } = number(line, at, 0, 99) else {
+            return Counted::Missing;
+        };
+        return Counted::Steps { count: 1, next };
+    }
+    let FoundNumber::At { value, next: inner } = times(line, at) else {
+        return Counted::Missing;
+    };
+    let Counted::Steps { count, next } = items(line, inner) else {
+        return Counted::Missing;
+    };
+    Counted::Steps {
+        count: cap(value as u64 * count as u64),
+        next,
+    }
+}
+
+// Items from `at` on, each behind a space, up to the closing bracket.
+pub fn items(line: &[u8], at: usize) -> Counted
+    ensures { λ r. ⌜ ItemsAre (now (line .entry)) at r ⌝ }
+{
+    let mut place = at;
+    let mut total: u32 = 0;
+    while place < line.len() {
+        if line[place] == b')' {
+            return Counted::Steps {
+                count: total,
+                next: place + 1,
+            };
+        }
+        if line[place] != b' ' {
+            return Counted::Missing;
+        }
+        let Counted::Steps { count, next } = item(line, place + 1) else {
+            return Counted::Missing;
+        };
+        total = cap(total as u64 + count as u64);
+        place = next;
+    }
+    Counted::Missing
+}
