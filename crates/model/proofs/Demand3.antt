@@ -62,7 +62,7 @@ module _ (n K : ℕ) where
   unfolding stations islands freshBoard
   fresh-ready b s = record { board = fresh-board n K b s; isN = refl; isK = refl }
 
-  fresh-held : (b : List ℕ) → Shape n K b → Held n K (freshBoard n K)
+  pub fresh-held : (b : List ℕ) → Shape n K b → Held n K (freshBoard n K)
   unfolding stations islands freshBoard
   fresh-held b s = record { board = fresh-board n K b s; isN = refl; isK = refl; inv = subst (Inv n) (sym fresh-view) (inv-initial n) }
 

@@ -7,4 +7,5 @@ pub mod Agreement
 pub mod Sequential
 pub mod Bridge
 pub mod Demand3
+pub mod Sheet
 pub mod Starred

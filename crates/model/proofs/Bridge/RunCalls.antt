@@ -10,7 +10,7 @@ use Rattle.model.proofs.Calls.Runs as runs
 use Rattle.model.proofs.Bridge.Lists.{after}
 use native.Mathlib.Omega.{arith}
 
-ran-calls : (is b : List ℕ) → runs.after step b is ≡ after (map stepping is) b
+pub ran-calls : (is b : List ℕ) → runs.after step b is ≡ after (map stepping is) b
 unfolding runs.after after called
 ran-calls [] b = refl
 ran-calls (i ∷ is) b = ran-calls is (step i b .bytes)

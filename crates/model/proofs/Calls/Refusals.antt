@@ -50,10 +50,10 @@ pub record Shape (n K : ℕ) (b : List ℕ) : Type 0 where
   pub islands-high : K ≤ 64
   pub len : length b ≡ boardLength n K
 
-within : (low high x : ℕ) → T (leb low x && leb x high) → (low ≤ x) × (x ≤ high)
+pub within : (low high x : ℕ) → T (leb low x && leb x high) → (low ≤ x) × (x ≤ high)
 within low high x t = (leb→le low x (and-l (leb low x) (leb x high) t), leb→le x high (and-r (leb low x) (leb x high) t))
 
-within-T : (low high x : ℕ) → low ≤ x → x ≤ high → T (leb low x && leb x high)
+pub within-T : (low high x : ℕ) → low ≤ x → x ≤ high → T (leb low x && leb x high)
 within-T low high x h l = and-i (leb low x) (leb x high) (le→leb low x h) (le→leb x high l)
 
 module _ (n K : ℕ) (b : List ℕ) where

@@ -12,6 +12,7 @@ use lib.Dec.{eqb, leb}
 use lib.ListN.{length, getD, drop, length-append}
 use borrow.Author.Tests.{leb-true, leb-false, eq-eqb, ne-eqb}
 use Rattle.model.specs.Forms.{Item, station, times, Items, done, next, repeated, expandItem, expand, Read, found, andThen, spaced, number, natural, timesIn, itemIn, itemsIn}
+use Rattle.model.proofs.Sheet.Limits.{length-repeated}
 use Rattle.sheet.specs.declared.number.FoundNumber.{FoundNumber}
 use Rattle.sheet.specs.declared.number.FoundNumber.the-variants as numbers
 use Rattle.sheet.specs.declared.item.Counted.{Counted}
@@ -21,11 +22,6 @@ use Rattle.sheet.specs.Counts.{capped, countedAt, CountedInside, sized, 
 use Rattle.sheet.proofs.Laws.Places.{nothing-left, first-byte, behind-first, left-over}
 
 -- ---- the steps of items, by their number
-
-pub length-repeated : (k : ℕ) (l : List ℕ) → length (repeated k l) ≡ k * length l
-unfolding repeated
-length-repeated zero l = omega arith
-length-repeated (suc k) l = simp length-append (omega (arith, length-repeated k l))
 
 at-least-once : (k x : ℕ) → 1 ≤ k → x ≤ k * x
 at-least-once zero x h = absurd (omega arith)
@@ -115,7 +111,7 @@ module _ (line : List ℕ) (at : ℕ) where
   no-item h = item-is Missing tt (λ fuel l. rw (nothing-left line at h))
 
   module _ (no-bracket : getD line at 0 ≡ 40 → ⊥) (r : FoundNumber) (is : NumberIs line at 0 99 r) where
-    as-number : (fuel : ℕ) → itemIn (suc fuel) (drop at line) ≡ andThen (numberAt line r) λ i rest. found (station i) rest
+    pub as-number : (fuel : ℕ) → itemIn (suc fuel) (drop at line) ≡ andThen (numberAt line r) λ i rest. found (station i) rest
     unfolding itemIn
     as-number fuel = rw (first-byte line at, ne-eqb (getD line at 0) 40 no-bracket, is .reads)
 
@@ -130,7 +126,7 @@ module _ (line : List ℕ) (at : ℕ) where
         item-is (Steps 1 after) (inside .0, inside .1, omega arith) (λ fuel l. rw (as-number fuel, e))
 
   module _ (bracket : getD line at 0 ≡ 40) (r : FoundNumber) (is : TimesIs line at r) where
-    as-times : (fuel : ℕ)
+    pub as-times : (fuel : ℕ)
         → itemIn (suc fuel) (drop at line) ≡ andThen (numberAt line r) λ k inner. andThen (itemsIn fuel inner) λ is rest. found (times k is) rest
     unfolding itemIn
     as-times fuel = rw (first-byte line at, eq-eqb (getD line at 0) 40 bracket, is .reads)

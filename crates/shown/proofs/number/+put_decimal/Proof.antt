@@ -4,7 +4,8 @@ use mathlib.Core.List.{List}
 use native.Mathlib.Omega.{arith}
 use Rattle.shown.specs.Puts.{Puts}
 use Rattle.shown.proofs.Putting.{puts-then}
-use Rattle.shown.proofs.Decimals.{decimal-one, decimal-more, length-one, length-more}
+use Rattle.model.proofs.Basics.Decimals.{decimal-one, decimal-more}
+use Rattle.shown.proofs.Decimals.{length-one, length-more}
 use Prim.Native.Nat.{ℕ, _<_}
 use borrow.Fn.Kinds.{In}
 use borrow.Fn.PlainCycle.{Measures, is, falls, and}
@@ -98,7 +99,7 @@ put-decimal-returns-2 : (t : ℕ) → put-decimal-lts.Need-returns-2 (
   put-decimal.Post,
 ) (put-decimal-at t) put-decimal.Post
 put-decimal-returns-2 t c =
-    subst (λ (l : List ℕ). Puts (c .before .before .before .args .line) l (c .put-byte2 .result)) (sym (decimal-more _ (c .before .before .if1 .left) (c .before .before .before .fits .x .fits)))
+    subst (λ (l : List ℕ). Puts (c .before .before .before .args .line) l (c .put-byte2 .result)) (sym (decimal-more _ (c .before .before .if1 .left) (omega (arith, c .before .before .before .fits .x .fits))))
     (puts-then (c .before .put-decimal .ensures) (c .put-byte2 .ensures))
 
 pub +put-decimal-spec : {M : Type 1} → statement M

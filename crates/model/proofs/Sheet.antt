@@ -1,0 +1,10 @@
+-- The run sheet: its reader is 01's grammar and nothing else; the calls that its lines make and their part in demand 3;
+-- its limits.
+pub mod Readers
+pub mod Numbers
+pub mod NumbersBack
+pub mod Written
+pub mod WrittenBack
+pub mod Lines
+pub mod Calls
+pub mod Limits

@@ -1,0 +1,178 @@
+-- The forms of a run sheet written out by 01's grammar, and that the reader finds in a written form that form.
+-- Relies on the forms and on their numbers; WrittenBack has the other direction.
+use mathlib.Core.Path.{_≡_, refl, sym, ap, _∙_, subst}
+use mathlib.Core.Bool.{Bool, false, not}
+use mathlib.Core.List.{List, [], _∷_, _++_, append-assoc}
+use mathlib.Core.Option.{none, some}
+use Prim.Native.Nat.{ℕ, zero, suc, _+_, _≤_, _<_}
+use native.Mathlib.Omega.{arith}
+use lib.Dec.{T, leb, le→leb, lit<}
+use lib.ListN.{length, length-append}
+use mir.Syntax.{w32}
+use mir.Val.{SFits}
+use Rattle.model.specs.Bytes.{byte}
+use Rattle.model.specs.Calls.{Refusal, unless}
+use Rattle.model.specs.Show.{textFrom, text, decimalIn, decimal, signed}
+use Rattle.model.specs.Forms.{Item, station, times, Items, done, next, Form, board, propose, steps, show, found, spaced, digit, number}
+use Rattle.model.specs.Forms.{behind, timesIn, itemIn, itemsIn, same, wordOf, upToStop, firstWord, closing, stepsWord, formAfter, formIn, tooDeep, Reading, reads, unread, orFour, readLine}
+use Rattle.model.proofs.Calls.Refusals.{unless-passes}
+use Rattle.model.proofs.Sheet.Numbers.{Stops, then-found, digit-not, decimal-begins, number-decimal, figure-signed}
+
+-- ---- 01's grammar
+
+-- "An item is a station number or `(times k item ..)`", and each item stands behind a space
+unfoldable mutual
+  pub writtenItem : Item → List ℕ
+  writtenItem (station i) = decimal i
+  writtenItem (times k is) = text "(times " ++ (decimal k ++ (writtenItems is ++ text ")"))
+
+  pub writtenItems : Items → List ℕ
+  writtenItems done = []
+  writtenItems (next i is) = text " " ++ (writtenItem i ++ writtenItems is)
+
+-- "`(board n K)`", "`(propose i v)`", "`(steps item ..)`, perhaps with no item", "`(show)`"
+unfoldable pub written : Form → List ℕ
+written (board n K) = text "(board " ++ (decimal n ++ (text " " ++ (decimal K ++ text ")")))
+written (propose i v) = text "(propose " ++ (decimal i ++ (text " " ++ (signed v ++ text ")")))
+written (steps is) = text "(steps" ++ (writtenItems is ++ text ")")
+written show = text "(show)"
+
+-- "at least one item"
+unfoldable pub AtLeastOne : Items → Type 0
+AtLeastOne done = ⊥
+AtLeastOne (next i is) = Unit {0}
+
+-- "stations are 0 to 99"; "which holds at least one item again, k from 1 to 99,999"
+unfoldable mutual
+  pub ItemInRange : Item → Type 0
+  ItemInRange (station i) = i ≤ 99
+  ItemInRange (times k is) = (1 ≤ k) × (k ≤ 99999) × AtLeastOne is × ItemsInRange is
+
+  pub ItemsInRange : Items → Type 0
+  ItemsInRange done = Unit {0}
+  ItemsInRange (next i is) = ItemInRange i × ItemsInRange is
+
+-- "n, K and stations are 0 to 99"; "A figure is a signed 32-bit whole number; its full width is allowed."
+unfoldable pub InRange : Form → Type 0
+InRange (board n K) = (n ≤ 99) × (K ≤ 99)
+InRange (propose i v) = (i ≤ 99) × SFits w32 v
+InRange (steps is) = ItemsInRange is
+InRange show = Unit {0}
+
+-- ---- what is read of a written form
+
+-- a number of the sheet, 0 to 99
+station-read : (i : ℕ) → i ≤ 99 → (rest : List ℕ) → Stops rest → number 0 99 (decimal i ++ rest) ≡ found i rest
+station-read i h rest s = number-decimal 0 99 i (omega arith) h (lit< tt) rest s
+
+bracket-stops : (rest : List ℕ) → Stops (41 ∷ rest)
+unfolding Stops digit
+bracket-stops rest = refl
+
+space-stops : (rest : List ℕ) → Stops (32 ∷ rest)
+unfolding Stops digit
+space-stops rest = refl
+
+-- items end at a space or at their closing bracket
+items-stop : (is : Items) (rest : List ℕ) → Stops (writtenItems is ++ (41 ∷ rest))
+unfolding writtenItems text textFrom
+items-stop done rest = bracket-stops rest
+items-stop (next i is) rest = space-stops _
+
+times-read : (k : ℕ) → 1 ≤ k → k ≤ 99999 → (is : Items) → AtLeastOne is → (rest : List ℕ)
+    → timesIn (text "(times " ++ (decimal k ++ (writtenItems is ++ (41 ∷ rest)))) ≡ found k (writtenItems is ++ (41 ∷ rest))
+unfolding timesIn behind text textFrom AtLeastOne writtenItems
+times-read k h l done o rest = absurd o
+times-read k h l (next i is) o rest = then-found _ (number-decimal 1 99999 k h l (lit< tt) _ (items-stop (next i is) rest))
+
+-- one item, given that the items inside it are read
+
+not-bracket : digit 40 ≡ false
+unfolding digit
+not-bracket = refl
+
+station-item : (i fuel : ℕ) → i ≤ 99 → (rest : List ℕ) → Stops rest → itemIn (suc fuel) (decimal i ++ rest) ≡ found (station i) rest
+unfolding itemIn
+station-item i fuel h rest s =
+    rw (digit-not (byte (decimal i ++ rest) 0) 40 (decimal-begins i rest) not-bracket) (then-found _ (station-read i h rest s))
+
+pub times-regrouped : (k : ℕ) (is : Items) (rest : List ℕ) → writtenItem (times k is) ++ rest ≡ text "(times " ++ (decimal k ++ (writtenItems is ++ (41 ∷ rest)))
+unfolding writtenItem text textFrom
+times-regrouped k is rest = simp append-assoc
+
+pub next-regrouped : (i : Item) (is : Items) (rest : List ℕ) → writtenItems (next i is) ++ rest ≡ 32 ∷ (writtenItem i ++ (writtenItems is ++ rest))
+unfolding writtenItem text textFrom
+next-regrouped i is rest = simp append-assoc
+
+times-item : (k : ℕ) (is : Items) (fuel : ℕ) → 1 ≤ k → k ≤ 99999 → AtLeastOne is → (rest : List ℕ)
+    → itemsIn fuel (writtenItems is ++ (41 ∷ rest)) ≡ found is rest → itemIn (suc fuel) (writtenItem (times k is) ++ rest) ≡ found (times k is) rest
+unfolding itemIn text textFrom
+times-item k is fuel h l o rest e = ap (itemIn (suc fuel)) (times-regrouped k is rest) ∙ then-found _ (times-read k h l is o rest) ∙ then-found _ e
+
+done-read : (fuel : ℕ) (rest : List ℕ) → itemsIn (suc fuel) (41 ∷ rest) ≡ found done rest
+unfolding itemsIn
+done-read fuel rest = refl
+
+next-item : (i : Item) (is : Items) (fuel : ℕ) (more rest : List ℕ) → itemIn fuel (writtenItem i ++ more) ≡ found i more
+    → itemsIn fuel more ≡ found is rest → itemsIn (suc fuel) (32 ∷ (writtenItem i ++ more)) ≡ found (next i is) rest
+unfolding itemsIn spaced
+next-item i is fuel more rest e f = then-found _ e ∙ then-found _ f
+
+-- lengths bound the fuel
+
+one-at-least : (i : ℕ) → 1 ≤ length (decimal i)
+unfolding decimal decimalIn
+one-at-least i = simp length-append (omega arith)
+
+times-length : (k : ℕ) (is : Items) → length (writtenItems is) + 1 < length (writtenItem (times k is))
+unfolding writtenItem text textFrom
+times-length k is = simp length-append (omega arith)
+
+next-length : (i : Item) (is : Items) → length (writtenItems (next i is)) ≡ suc (length (writtenItem i) + length (writtenItems is))
+unfolding writtenItems text textFrom
+next-length i is = simp length-append
+
+mutual
+  unfolding writtenItem ItemInRange text textFrom
+
+  item-read : (i : Item) (fuel : ℕ) → length (writtenItem i) ≤ fuel → ItemInRange i → (rest : List ℕ) → Stops rest
+      → itemIn fuel (writtenItem i ++ rest) ≡ found i rest
+  item-read (station i) zero f h rest s = absurd (omega (arith, one-at-least i))
+  item-read (station i) (suc fuel) f h rest s = station-item i fuel h rest s
+  item-read (times k is) zero f h rest s = absurd (omega (arith, times-length k is))
+  item-read (times k is) (suc fuel) f h rest s =
+      times-item k is fuel (h .0) (h .1) (h .2) rest (items-read is fuel (omega (arith, times-length k is)) (h .3) rest)
+
+  items-read : (is : Items) (fuel : ℕ) → length (writtenItems is) < fuel → ItemsInRange is → (rest : List ℕ)
+      → itemsIn fuel (writtenItems is ++ (41 ∷ rest)) ≡ found is rest
+  items-read done zero f h rest = absurd (omega arith)
+  items-read done (suc fuel) f h rest = done-read fuel rest
+  items-read (next i is) zero f h rest = absurd (omega arith)
+  items-read (next i is) (suc fuel) f h rest =
+      ap (itemsIn (suc fuel)) (next-regrouped i is (41 ∷ rest))
+      ∙ next-item i is fuel (writtenItems is ++ (41 ∷ rest)) rest (item-read i fuel (omega (arith, next-length i is)) (h .0) _ (items-stop is rest))
+      (items-read is fuel (omega (arith, next-length i is)) (h .1) rest)
+
+steps-read : (is : Items) → ItemsInRange is → formAfter stepsWord (writtenItems is ++ (41 ∷ [])) ≡ some (steps is)
+unfolding formAfter same
+steps-read is h = then-found _ (items-read is _ (omega (arith, length-append (writtenItems is) (41 ∷ []))) h [])
+
+-- The reader finds in a written form that form.
+pub reads-written : (f : Form) → InRange f → formIn (written f) ≡ some f
+unfolding written InRange text textFrom formIn firstWord upToStop wordOf same formAfter spaced closing writtenItems
+reads-written (board n K) h =
+    then-found _ (station-read n (h .0) _ (space-stops _)) ∙ then-found _ (station-read K (h .1) _ (bracket-stops []))
+reads-written (propose i v) h =
+    then-found _ (station-read i (h .0) _ (space-stops _)) ∙ then-found _ (figure-signed v (h .1) _ (bracket-stops []))
+reads-written (steps done) h = steps-read done h
+reads-written (steps (next i is)) h = steps-read (next i is) h
+reads-written show h = refl
+
+-- So a written line that is not too long and not too deep is read.
+pub reads-line : (f : Form) → InRange f → length (written f) ≤ 255 → tooDeep 0 0 (written f) ≡ false → readLine (written f) ≡ reads f
+unfolding readLine orFour
+reads-line f h l d =
+    ap (λ (r : Refusal). elim r as (λ x. Reading) [ none ↦ orFour (formIn (written f)) | some k ↦ unread k ])
+    (unless-passes (leb (length (written f)) 255) 2 (unless (not (tooDeep 0 0 (written f))) 3 none) (le→leb (length (written f)) 255 l)
+    ∙ unless-passes (not (tooDeep 0 0 (written f))) 3 none (subst (λ (t : Bool). T (not t)) (sym d) tt))
+    ∙ ap orFour (reads-written f h)
