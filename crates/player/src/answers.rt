@@ -1,6 +1,6 @@
 // A sheet line by line: refusal 1, where each line ends, and what it prints with its LF.
 // Relies on the player of one line; the program relies on it.
-ghost use Rattle.player.specs.Played.{Answers};
+ghost use Rattle.player.specs.Played.{Answers, answerAt};
 use crate::line::play_line;
 use bytes::scan::find;
 use shown::answer::refused_line;
@@ -17,7 +17,7 @@ pub struct Answer {
 
 // The answer to the line that starts at `at`; none at the sheet's end.
 pub fn next_answer(sheet: &[u8], at: usize, laid: usize, memory: &mut [u8]) -> Answer
-    ensures { λ r. ⌜ Answers (now (sheet .entry)) at laid (now (memory .entry)) r (now (memory .exit)) ⌝ }
+    ensures { λ r. ⌜ Answers (answerAt (now (sheet .entry)) at laid (now (memory .entry))) r (now (memory .exit)) ⌝ }
 {
     if sheet.len() <= at {
         return Answer {
