@@ -143,7 +143,7 @@ mutual
   item-read (times k is) (suc fuel) f h rest s =
       times-item k is fuel (h .0) (h .1) (h .2) rest (items-read is fuel (omega (arith, times-length k is)) (h .3) rest)
 
-  items-read : (is : Items) (fuel : ℕ) → length (writtenItems is) < fuel → ItemsInRange is → (rest : List ℕ)
+  pub items-read : (is : Items) (fuel : ℕ) → length (writtenItems is) < fuel → ItemsInRange is → (rest : List ℕ)
       → itemsIn fuel (writtenItems is ++ (41 ∷ rest)) ≡ found is rest
   items-read done zero f h rest = absurd (omega arith)
   items-read done (suc fuel) f h rest = done-read fuel rest

@@ -99,12 +99,12 @@ both-stood (suc fuel) =
 
 -- ---- forms
 
-same-is : (k l : List ℕ) → T (same k l) → k ≡ l
+pub same-text : (k l : List ℕ) → T (same k l) → k ≡ l
 unfolding same
-same-is [] [] t = refl
-same-is [] (b ∷ l) t = absurd t
-same-is (a ∷ k) [] t = absurd t
-same-is (a ∷ k) (b ∷ l) t = λ j. eqb→eq a b (and-l (eqb a b) (same k l) t) j ∷ same-is k l (and-r (eqb a b) (same k l) t) j
+same-text [] [] t = refl
+same-text [] (b ∷ l) t = absurd t
+same-text (a ∷ k) [] t = absurd t
+same-text (a ∷ k) (b ∷ l) t = λ j. eqb→eq a b (and-l (eqb a b) (same k l) t) j ∷ same-text k l (and-r (eqb a b) (same k l) t) j
 
 wordText : Word → List ℕ
 wordText boardWord = text "board"
@@ -116,7 +116,7 @@ word-case : (w s : List ℕ) (x : Word) (o : Option Word) → wordText x ≡ s �
     → Always (λ (y : Word). w ≡ wordText y) (cond (same w s) (some x) o)
 unfolding Always
 word-case w s x o q h =
-    cond-case (Always (λ (y : Word). w ≡ wordText y)) (same w s) (some x) o (λ e. same-is w s (true-T _ e) ∙ sym q) (λ e. h)
+    cond-case (Always (λ (y : Word). w ≡ wordText y)) (same w s) (some x) o (λ e. same-text w s (true-T _ e) ∙ sym q) (λ e. h)
 
 word-stood : (w : List ℕ) → Always (λ (x : Word). w ≡ wordText x) (wordOf w)
 unfolding wordOf wordText Always
@@ -155,7 +155,7 @@ FormStood l f = (l ≡ written f) × InRange f
 
 closes : (l : List ℕ) (f : Form) (k : List ℕ) → (k ≡ text ")" → FormStood l f) → Always (FormStood l) (closing f k)
 unfolding closing Always
-closes l f k h = always-if (FormStood l) (same k (text ")")) (some f) (λ e. h (same-is k (text ")") (true-T _ e)))
+closes l f k h = always-if (FormStood l) (same k (text ")")) (some f) (λ e. h (same-text k (text ")") (true-T _ e)))
 
 after-stood : (w : Word) (k : List ℕ) → Always (FormStood (40 ∷ (wordText w ++ k))) (formAfter w k)
 unfolding formAfter wordText FormStood written InRange Stood ItemsStood Station text textFrom Always
@@ -186,7 +186,7 @@ after-stood stepsWord k =
     (λ r h. always-if (FormStood (40 ∷ (wordText stepsWord ++ k))) (same (r .rest) []) (some (steps (r .value)))
     (λ e. (
       ap (λ (x : List ℕ). 40 ∷ (wordText stepsWord ++ x))
-          (h .0 ∙ ap (λ (x : List ℕ). writtenItems (r .value) ++ (41 ∷ x)) (same-is (r .rest) [] (true-T _ e))),
+          (h .0 ∙ ap (λ (x : List ℕ). writtenItems (r .value) ++ (41 ∷ x)) (same-text (r .rest) [] (true-T _ e))),
       h .1,
     )))
 after-stood showWord k =

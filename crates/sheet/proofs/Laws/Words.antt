@@ -10,6 +10,8 @@ use borrow.Author.Tests.{eq-eqb, ne-eqb, eqb-true}
 use lib.Dec.{eqb}
 use lib.ListN.{length, take, drop, getD, length-drop, drop-of-length-le}
 use lib.Seq.{take-suc, drop-cons, getD-drop}
+use Rattle.model.proofs.Basics.Tests.{true-T}
+use Rattle.model.proofs.Sheet.WrittenBack.{same-text}
 use Rattle.model.specs.Forms.{Word, boardWord, proposeWord, stepsWord, showWord, same, wordOf, upToStop, firstWord, formWord}
 use Rattle.model.specs.Show.{text, textFrom}
 use Rattle.sheet.specs.declared.word.FormWord.{FormWord}
@@ -25,24 +27,8 @@ unfolding same
 same-self [] = refl
 same-self (x ∷ a) = ap (λ (t : Bool). t && same a a) (eq-eqb x x refl) ∙ same-self a
 
-first-true : (s t : Bool) → s && t ≡ true → s ≡ true
-first-true true t e = refl
-first-true false t e = e
-
-second-true : (s t : Bool) → s && t ≡ true → t ≡ true
-second-true true t e = e
-second-true false true e = refl
-second-true false false e = e
-
-pub same-equal : (a b : List ℕ) → same a b ≡ true → a ≡ b
-unfolding same
-same-equal [] [] e = refl
-same-equal [] (y ∷ b) e = let z : _≡_ {A = ℕ} 0 1 = cc in absurd (omega arith)
-same-equal (x ∷ a) [] e = let z : _≡_ {A = ℕ} 0 1 = cc in absurd (omega arith)
-same-equal (x ∷ a) (y ∷ b) e =
-    let p : x ≡ y = eqb-true x y (first-true (eqb x y) (same a b) e) in
-    let q : a ≡ b = same-equal a b (second-true (eqb x y) (same a b) e) in
-    cc
+same-equal : (a b : List ℕ) → same a b ≡ true → a ≡ b
+same-equal a b e = same-text a b (true-T (same a b) e)
 
 -- an answer that is true exactly where two texts are equal is the model's
 pub same-is : (a b : List ℕ) (r : Bool) → (r ≡ true → a ≡ b) × (a ≡ b → r ≡ true) → r ≡ same a b
@@ -224,24 +210,3 @@ its-word line w f p e =
     p ∙ kept (wordOf (firstWord line)) f (firstWord line) (e ∙ ap (λ (k : List ℕ). namedAs (wordOf k)) p)
 
 -- ---- what follows a word is within the line
-
-no-longer : (l : List ℕ) → length (upToStop l) ≤ length l
-unfolding upToStop
-no-longer [] = omega arith
-no-longer (b ∷ l) = go (eqb b 32 || eqb b 40 || eqb b 41) (no-longer l)
-  where
-    go : (t : Bool) → length (upToStop l) ≤ length l → length (cond t [] (b ∷ upToStop l)) ≤ length (b ∷ l)
-    go true h = omega arith
-    go false h = omega arith
-
-pub word-inside : (line w : List ℕ) (f : FormWord) → w ≡ firstWord line → Form f ≡ named w → length w + 1 ≤ length line
-unfolding firstWord named namedAs wordOf same text textFrom
-word-inside [] w f p e =
-    let q : Form f ≡ Nothing = e ∙ ap named p in
-    let z : _≡_ {A = ℕ} 0 1 = cc in
-    absurd (omega arith)
-word-inside (b ∷ l) w f p e = omega (arith, ap length p, go (eqb b 40))
-  where
-    go : (t : Bool) → length (cond t (upToStop l) []) ≤ length l
-    go true = no-longer l
-    go false = omega arith
