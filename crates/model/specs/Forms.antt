@@ -3,7 +3,7 @@
 use Rattle.model.specs.Kit.{Bool, true, false, not, cond, _&&_, _||_, List, [], _∷_, _++_, Option, none, some, ℕ, zero, suc, _+_, _*_, _-_, eqb, leb, ltb, length, drop, pos, negsuc}
 use Rattle.model.specs.Bytes.{byte}
 use Rattle.model.specs.Figure.{Figure}
-use Rattle.model.specs.Calls.{Refusal, unless}
+use Rattle.model.specs.Calls.{unless}
 use Rattle.model.specs.Show.{text}
 
 -- "An item is a station number or `(times k item ..)`, which holds at least one item again"

@@ -1,6 +1,6 @@
 -- The starred runs of 01 as one table: a row is what the definitions give and what 01 says they give.
 -- Relies on the calls and the shown line; proofs/Starred.antt proves the one statement `Starred`.
-use Rattle.model.specs.Kit.{Bool, true, List, [], _∷_, _++_, none, some, ℕ, zero, suc, pos, negsuc, length, replicate}
+use Rattle.model.specs.Kit.{Bool, true, List, [], _∷_, _++_, none, some, ℕ, suc, pos, negsuc, length, replicate}
 use mathlib.Core.Path.{_≡_}
 use Rattle.model.specs.Figure.{Figure, above}
 use Rattle.model.specs.Layout.{boardLength}

@@ -8,7 +8,7 @@ use lib.ListN.{length, drop}
 use Rattle.model.specs.declared.RunVerdict.{RunVerdict}
 use Rattle.model.specs.Calls.{run}
 use Rattle.model.specs.Told.{runTold}
-use Rattle.model.specs.Forms.{Item, Items, Read, found, expandItem, expand, itemIn, itemsIn, steps, reads, readLine}
+use Rattle.model.specs.Forms.{Items, Read, found, expandItem, expand, itemIn, itemsIn, steps, reads, readLine}
 use Rattle.sheet.specs.declared.form.LineForm.the-variants.{Steps}
 use Rattle.sheet.specs.Lines.{lineForm}
 use Rattle.calls.specs.Stepped.{RunsOn}

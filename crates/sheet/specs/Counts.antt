@@ -5,7 +5,7 @@ use mathlib.Core.List.{List}
 use mathlib.Core.Option.{Option, none, some}
 use Prim.Native.Nat.{ℕ, min, _≤_, _<_}
 use lib.ListN.{length, drop}
-use Rattle.model.specs.Forms.{Item, Items, Read, found, expandItem, expand, itemIn, itemsIn}
+use Rattle.model.specs.Forms.{Items, Read, found, expandItem, expand, itemIn, itemsIn}
 use Rattle.sheet.specs.declared.item.Counted.{Counted}
 use Rattle.sheet.specs.declared.item.Counted.the-variants.{Steps, Missing}
 

@@ -1,6 +1,5 @@
 -- A line's reading as the code hands it back.
 -- Relies on the model's readings and on the cap of a count; the contracts of the reader of a line rely on it.
-use mathlib.Core.Path.{_≡_}
 use lib.ListN.{length}
 use Rattle.model.specs.Forms.{board, propose, steps, show, expand, Reading, reads, unread}
 use Rattle.sheet.specs.declared.form.LineForm.{LineForm}

@@ -1,6 +1,6 @@
 -- A run is its single steps one after another, and on a sound board soundness need be tested only once.
 -- Relies on CallsKeep and Refusals; the code's run relies on it.
-use mathlib.Core.Path.{_≡_, refl, sym, ap, _∙_}
+use mathlib.Core.Path.{_≡_, refl, ap, _∙_}
 use mathlib.Core.Bool.{Bool, true, false, cond}
 use mathlib.Core.List.{List, [], _∷_, _++_}
 use mathlib.Core.Option.{Option, none}

@@ -1,6 +1,6 @@
 -- What the model's readers of items read does not depend on their fuel.
 -- Relies on the model's items; the walk over a line's items relies on it, whose reads are at fuels of their own.
-use mathlib.Core.Path.{_≡_, refl, sym, ap, _∙_, subst}
+use mathlib.Core.Path.{_≡_, refl, subst}
 use mathlib.Core.Bool.{Bool, true, false, cond}
 use mathlib.Core.List.{List}
 use mathlib.Core.Option.{Option, none, some}
@@ -10,7 +10,7 @@ use native.Mathlib.Omega.{arith}
 use lib.Dec.{eqb}
 use lib.ListN.{drop}
 use Rattle.model.specs.Bytes.{byte}
-use Rattle.model.specs.Forms.{Item, station, times, Items, done, next, Read, found, andThen, spaced, number, timesIn, itemIn, itemsIn}
+use Rattle.model.specs.Forms.{Items, Read, andThen, spaced, timesIn, itemIn, itemsIn}
 
 -- whatever o gives, p gives too
 abbrev Below : {A : Type 0} → Option A → Option A → Type 0

@@ -2,15 +2,15 @@
 -- Relies on Walking; the proof of the walk over a list of items relies on it.
 use mathlib.Core.Path.{_≡_, refl, sym, ap, _∙_, subst}
 use mathlib.Core.Bool.{Bool, true, false, cond}
-use mathlib.Core.List.{List, [], _∷_, _++_, append-assoc, append-nil}
-use mathlib.Core.Option.{Option, none, some}
+use mathlib.Core.List.{List, [], _++_, append-assoc, append-nil}
+use mathlib.Core.Option.{none, some}
 use Prim.Native.Nat.{ℕ, zero, suc, _+_, _≤_, _<_}
 use native.Mathlib.Omega.{arith}
 use lib.Dec.{eqb}
 use lib.ListN.{length, getD, drop, length-append}
-use borrow.Author.Tests.{eq-eqb, ne-eqb, eqb-true}
+use borrow.Author.Tests.{ne-eqb}
 use Rattle.model.specs.Calls.{boardRefusal}
-use Rattle.model.specs.Forms.{Item, Items, done, next, expandItem, expand, Read, found, andThen, spaced, itemIn, itemsIn}
+use Rattle.model.specs.Forms.{Item, Items, done, next, expandItem, expand, found, andThen, spaced, itemIn, itemsIn}
 use Rattle.sheet.proofs.Laws.Places.{first-byte, behind-first}
 use Rattle.calls.specs.Stepped.{RunsOn}
 use Rattle.calls.proofs.Laws.Running.{runs-below}

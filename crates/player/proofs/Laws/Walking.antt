@@ -2,15 +2,15 @@
 -- Relies on Fuel, the reader's laws and runs put together of runs; the proof of the two walks relies on it.
 use mathlib.Core.Path.{_≡_, refl, sym, ap, _∙_, subst, subst₂}
 use mathlib.Core.Bool.{Bool, true, false}
-use mathlib.Core.List.{List, [], _∷_, _++_, append-assoc, append-nil}
+use mathlib.Core.List.{List, [], _++_, append-assoc, append-nil}
 use mathlib.Core.Option.{Option, none, some}
 use Prim.Native.Nat.{ℕ, zero, suc, _+_, _*_, _≤_, _<_}
 use native.Mathlib.Nat.{mul-le-mul-right}
 use native.Mathlib.Numerals.{add-one}
 use native.Mathlib.Omega.{arith}
 use lib.Dec.{ltb}
-use lib.ListN.{length, getD, drop, length-append}
-use borrow.Author.Tests.{ltb-true, ltb-false, eq-eqb, ne-eqb}
+use lib.ListN.{length, getD, drop}
+use borrow.Author.Tests.{ltb-true, ltb-false}
 use Rattle.model.specs.declared.StepAnswer.{StepAnswer}
 use Rattle.model.specs.Calls.{boardRefusal}
 use Rattle.model.specs.Forms.{Item, station, times, Items, done, next, repeated, expandItem, expand, Read, found, andThen, spaced, number, natural, itemIn, itemsIn}
@@ -18,13 +18,13 @@ use Rattle.model.proofs.Sheet.Limits.{length-repeated}
 use Rattle.sheet.specs.declared.number.FoundNumber.{FoundNumber}
 use Rattle.sheet.specs.declared.number.FoundNumber.the-variants.{At, Missing}
 use Rattle.sheet.specs.Placed.{numberAt, NumberIs, TimesIs}
-use Rattle.sheet.proofs.Laws.Places.{nothing-left, first-byte, behind-first}
+use Rattle.sheet.proofs.Laws.Places.{nothing-left}
 use Rattle.sheet.proofs.Laws.Items.{as-number, as-times}
 use Rattle.calls.specs.Stepped.{StepsOn, RunsOn, counts}
 use Rattle.calls.proofs.Laws.Running.{runs-below}
 use Rattle.calls.proofs.Laws.Joined.{runs-none, runs-one, runs-then, runs-sound, runs-length}
 use Rattle.player.specs.declared.walk.Walked.{Walked}
-use Rattle.player.specs.Walks.{Walk, Readable, Walks, ItemReads, ItemsRead, ItemWalks, ItemsWalk}
+use Rattle.player.specs.Walks.{Walk, Walks, ItemReads, ItemsRead, ItemWalks, ItemsWalk}
 use Rattle.player.proofs.Laws.Fuel.{agree}
 
 -- ---- what was read

@@ -3,15 +3,15 @@
 -- Relies on Places and the model's items; the proof of the two readers of items relies on it.
 use mathlib.Core.Path.{_≡_, refl, sym, ap, _∙_}
 use mathlib.Core.Bool.{Bool, true, false}
-use mathlib.Core.List.{List, [], _∷_, _++_}
+use mathlib.Core.List.{List, _++_}
 use mathlib.Core.Option.{Option, none, some}
-use Prim.Native.Nat.{ℕ, zero, suc, min, _+_, _*_, _-_, _≤_, _<_}
+use Prim.Native.Nat.{ℕ, zero, suc, _+_, _*_, _-_, _≤_, _<_}
 use native.Mathlib.Nat.{mul-le-mul-left, mul-le-mul-right, le-trans}
 use native.Mathlib.Omega.{arith}
-use lib.Dec.{eqb, leb}
+use lib.Dec.{leb}
 use lib.ListN.{length, getD, drop, length-append}
 use borrow.Author.Tests.{leb-true, leb-false, eq-eqb, ne-eqb}
-use Rattle.model.specs.Forms.{Item, station, times, Items, done, next, repeated, expandItem, expand, Read, found, andThen, spaced, number, natural, timesIn, itemIn, itemsIn}
+use Rattle.model.specs.Forms.{Item, station, times, Items, next, repeated, expandItem, expand, Read, found, andThen, spaced, number, natural, itemIn, itemsIn}
 use Rattle.model.proofs.Sheet.Limits.{length-repeated}
 use Rattle.sheet.specs.declared.number.FoundNumber.{FoundNumber}
 use Rattle.sheet.specs.declared.number.FoundNumber.the-variants as numbers

@@ -6,14 +6,14 @@ use mathlib.Core.List.{List, [], _∷_, _++_, append-assoc, append-nil}
 use mathlib.Core.Option.{Option, none, some}
 use Prim.Native.Nat.{ℕ, suc, _+_, _-_, _≤_, _<_}
 use native.Mathlib.Omega.{arith}
-use borrow.Author.Tests.{eq-eqb, ne-eqb, eqb-true}
+use borrow.Author.Tests.{eq-eqb, ne-eqb}
 use lib.Dec.{eqb}
 use lib.ListN.{length, take, drop, getD, length-drop, drop-of-length-le}
 use lib.Seq.{take-suc, drop-cons, getD-drop}
 use Rattle.model.proofs.Basics.Tests.{true-T}
 use Rattle.model.proofs.Sheet.WrittenBack.{same-text}
 use Rattle.model.specs.Forms.{Word, boardWord, proposeWord, stepsWord, showWord, same, wordOf, upToStop, firstWord, formWord}
-use Rattle.model.specs.Show.{text, textFrom}
+use Rattle.model.specs.Show.{text}
 use Rattle.sheet.specs.declared.word.FormWord.{FormWord}
 use Rattle.sheet.specs.declared.word.FormWord.the-variants.{Board, Propose, Steps, Show}
 use Rattle.sheet.specs.declared.word.Named.{Named}

@@ -10,8 +10,6 @@ use borrow.Author.Needs.{needs}
 use borrow.Author.Fill.{fill-more}
 use Rattle.calls.proofs.laying.clear.Statement.{statement}
 use Rattle.calls.proofs.laying.clear.Tie as tie
-use Rattle.calls.proofs.laying.clear.Reads as reads
-use Rattle.calls.proofs.laying.clear.Lts as lts
 
 -- one more byte is zero
 again : (s₀ s : List ℕ) (i : ℕ) → length s ≡ length s₀ → s ≡ replicate i 0 ++ drop i s₀ → i < length s

@@ -7,56 +7,40 @@ use Rattle.model.proofs.Calls.Refusals.{shape-7, shape-8-low, shape-8-high, sha
 use Rattle.calls.proofs.Laws.Laying.{turned-down, cleared, laid}
 use Rattle.calls.proofs.laying.lay.Statement.{statement}
 use Rattle.calls.proofs.laying.lay.Tie as tie
-use Rattle.calls.proofs.laying.lay.Reads as reads
-use Rattle.calls.proofs.laying.lay.Lts as lts
-use Rattle.calls.proofs.laying.clear.Reads as clear-reads
-use Rattle.calls.proofs.places.board_length.Reads as board-length-reads
 
--- src/laying.rt:29:9
 returns : tie.Need-returns
 returns c = turned-down _ _ _ 7 (shape-7 _ _ _ _ (omega arith))
 
--- src/laying.rt:32:9
 returns-2 : tie.Need-returns-2
 returns-2 c = turned-down _ _ _ 8 (shape-8-low _ _ _ _ (omega arith) (omega arith))
 
--- src/laying.rt:35:9
 returns-3 : tie.Need-returns-3
 returns-3 c = turned-down _ _ _ 8 (shape-8-high _ _ _ _ (omega arith) (omega arith))
 
--- src/laying.rt:38:9
 returns-4 : tie.Need-returns-4
 returns-4 c = turned-down _ _ _ 9 (shape-9-low _ _ _ _ (omega arith) (omega arith) (omega arith) (omega arith))
 
--- src/laying.rt:41:9
 returns-5 : tie.Need-returns-5
 returns-5 c = turned-down _ _ _ 9 (shape-9-high _ _ _ _ (omega arith) (omega arith) (omega arith) (omega arith))
 
--- src/laying.rt:43:23
 board-length-requires : tie.Need-board-length-requires
 board-length-requires c κs = search needs
 
--- src/laying.rt:44:9
 returns-6 : tie.Need-returns-6
 returns-6 c = turned-down _ _ _ 10 (shape-10 _ _ _ _ (omega arith) (omega arith) (omega arith) (omega arith) (omega arith) (λ e. omega arith))
 
--- src/laying.rt:46:5
 clear-requires : tie.Need-clear-requires
 clear-requires c κs = search needs
 
--- src/laying.rt:47:5
 slice-write-board : tie.Need-slice-write-board
 slice-write-board c = search needs
 
--- src/laying.rt:48:5
 slice-write-board-2 : tie.Need-slice-write-board-2
 slice-write-board-2 c = simp length-set (cleared (c .before .before .clear .last .0) (c .before .before .before .before .before .before .before .before .before .before .before .before .args .board .now) (c .before .before .clear .ensures) (omega arith))
 
--- src/laying.rt:25:1
 same-length : tie.Need-same-length
 same-length c = search needs
 
--- src/laying.rt:25:1
 returns-7 : tie.Need-returns-7
 returns-7 c = laid _ _ _ _ (record { long = omega arith; stations-low = omega arith; stations-high = omega arith; islands-low = omega arith; islands-high = omega arith; len = omega arith }) (c .before .before .clear .ensures)
 

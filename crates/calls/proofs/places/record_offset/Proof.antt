@@ -5,38 +5,28 @@ use native.Mathlib.Omega.{arith}
 use Rattle.model.specs.Layout.{recordAt}
 use Rattle.calls.proofs.places.record_offset.Statement.{statement}
 use Rattle.calls.proofs.places.record_offset.Tie as tie
-use Rattle.calls.proofs.places.record_offset.Reads as reads
-use Rattle.calls.proofs.places.record_offset.Lts as lts
 
--- src/places.rt:20:23
 mul-result : tie.Need-mul-result
 mul-result c = omega (arith, mul-le-mul (c .pre .0) (c .pre .1))
 
--- src/places.rt:20:19
 add-result : tie.Need-add-result
 add-result c = omega (arith, mul-le-mul (c .pre .0) (c .pre .1))
 
--- src/places.rt:20:14
 mul-result-2 : tie.Need-mul-result-2
 mul-result-2 c = omega (arith, mul-le-mul (c .pre .0) (c .pre .1))
 
--- src/places.rt:20:9
 mul-result-3 : tie.Need-mul-result-3
 mul-result-3 c = omega (arith, mul-le-mul (c .pre .0) (c .pre .1))
 
--- src/places.rt:20:5
 add-result-2 : tie.Need-add-result-2
 add-result-2 c = omega (arith, mul-le-mul (c .pre .0) (c .pre .1))
 
--- src/places.rt:20:33
 mul-result-4 : tie.Need-mul-result-4
 mul-result-4 c = omega (arith, mul-le-mul (c .pre .0) (c .pre .1))
 
--- src/places.rt:20:5
 add-result-3 : tie.Need-add-result-3
 add-result-3 c = omega (arith, mul-le-mul (c .pre .0) (c .pre .1))
 
--- src/places.rt:16:1
 returns : tie.Need-returns
 unfolding recordAt
 returns c = omega (arith, mul-le-mul (c .pre .0) (c .pre .1))

@@ -4,26 +4,19 @@ use native.Mathlib.Nat.{mul-le-mul}
 use native.Mathlib.Omega.{arith}
 use Rattle.calls.proofs.places.register_offset.Statement.{statement}
 use Rattle.calls.proofs.places.register_offset.Tie as tie
-use Rattle.calls.proofs.places.register_offset.Reads as reads
-use Rattle.calls.proofs.places.register_offset.Lts as lts
 
--- src/places.rt:28:14
 mul-result : tie.Need-mul-result
 mul-result c = omega (arith, mul-le-mul (c .pre .0) (c .pre .1))
 
--- src/places.rt:28:14
 add-result : tie.Need-add-result
 add-result c = omega (arith, mul-le-mul (c .pre .0) (c .pre .1))
 
--- src/places.rt:28:9
 mul-result-2 : tie.Need-mul-result-2
 mul-result-2 c = omega (arith, mul-le-mul (c .pre .0) (c .pre .1))
 
--- src/places.rt:28:5
 add-result-2 : tie.Need-add-result-2
 add-result-2 c = omega (arith, mul-le-mul (c .pre .0) (c .pre .1))
 
--- src/places.rt:24:1
 returns : tie.Need-returns
 returns c = omega (arith, mul-le-mul (c .pre .0) (c .pre .1))
 

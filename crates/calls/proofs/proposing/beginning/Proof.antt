@@ -5,10 +5,7 @@ use Rattle.model.specs.Listing.{proposed}
 use Rattle.model.specs.Layout.{writePhase, flagByte, seenNumber, bestIsland, bestFigure, fields, recordFields}
 use Rattle.calls.proofs.proposing.beginning.Statement.{statement}
 use Rattle.calls.proofs.proposing.beginning.Tie as tie
-use Rattle.calls.proofs.proposing.beginning.Reads as reads
-use Rattle.calls.proofs.proposing.beginning.Lts as lts
 
--- src/proposing.rt:18:1
 returns : tie.Need-returns
 unfolding recordFields fields proposed writePhase flagByte seenNumber bestIsland bestFigure
 returns c = λ i. record {

@@ -5,40 +5,28 @@ use Rattle.calls.proofs.Laws.Checking.{passed}
 use Rattle.calls.proofs.Laws.Proposing.{board-refuses, same-figure}
 use Rattle.calls.proofs.proposing.propose.Statement.{statement}
 use Rattle.calls.proofs.proposing.propose.Tie as tie
-use Rattle.calls.proofs.proposing.propose.Reads as reads
-use Rattle.calls.proofs.proposing.propose.Lts as lts
-use Rattle.calls.proofs.proposing.propose_on.Reads as propose-on-reads
-use Rattle.soundness.proofs.board.check_board.Reads as check-board-reads
 
--- src/proposing.rt:59:9
 check-board-requires : tie.Need-check-board-requires
 check-board-requires c κs = search needs
 
--- src/proposing.rt:61:28
 enum-known-checked : tie.Need-enum-known-checked
 enum-known-checked c = search needs
 
--- src/proposing.rt:62:41
 enum-told : tie.Need-enum-told
 enum-told c = search needs
 
--- src/proposing.rt:62:30
 propose-on-requires : tie.Need-propose-on-requires
 propose-on-requires c κs = passed _ _ (c .before .enum-told .given .1) (c .before .before .before .check-board .ensures)
 
--- src/proposing.rt:56:1
 same-length : tie.Need-same-length
 same-length c = search needs
 
--- src/proposing.rt:56:1
 returns : tie.Need-returns
 returns c = board-refuses _ _ _ (c .before .before .before .check-board .result) _ (c .before .checked .given .1) (c .before .before .before .check-board .ensures)
 
--- src/proposing.rt:56:1
 same-length-2 : tie.Need-same-length-2
 same-length-2 c = search needs
 
--- src/proposing.rt:56:1
 returns-2 : tie.Need-returns-2
 returns-2 c = same-figure _ _ _ _ _ _ (toZ-ofZ (c .before .before .before .before .before .before .before .before .before .fits .figure)) (c .before .before .propose-on .ensures)
 

@@ -11,70 +11,49 @@ use Rattle.calls.proofs.Laws.Stepping.{head, own-record, record-on}
 use Rattle.calls.proofs.Laws.Proposing.{twelve-low, twelve-high, thirteen, taken}
 use Rattle.calls.proofs.proposing.propose_on.Statement.{statement}
 use Rattle.calls.proofs.proposing.propose_on.Tie as tie
-use Rattle.calls.proofs.proposing.propose_on.Reads as reads
-use Rattle.calls.proofs.proposing.propose_on.Lts as lts
-use Rattle.calls.proofs.places.record_offset.Reads as record-offset-reads
-use Rattle.calls.proofs.proposing.beginning.Reads as beginning-reads
-use Rattle.codec.proofs.records.put_record.Reads as put-record-reads
-use Rattle.codec.proofs.records.record_at.Reads as record-at-reads
 
--- src/proposing.rt:39:13
 slice-read-n : tie.Need-slice-read-n
 slice-read-n c = omega (arith, head _ (c .before .before .pre))
 
--- src/proposing.rt:40:13
 slice-read-k : tie.Need-slice-read-k
 slice-read-k c = omega (arith, head _ (c .before .before .before .pre))
 
--- src/proposing.rt:42:9
 returns : tie.Need-returns
 returns c = twelve-low _ _ _ (c .before .before .before .before .pre) (omega arith)
 
--- src/proposing.rt:45:9
 returns-2 : tie.Need-returns-2
 returns-2 c = twelve-high _ _ _ (c .before .before .before .before .before .pre) (omega arith)
 
--- src/proposing.rt:47:28
 cast-record-offset : tie.Need-cast-record-offset
 cast-record-offset c = record { fits = omega (arith, head _ (c .before .before .before .before .before .pre)) }
 
--- src/proposing.rt:47:40
 cast-record-offset-2 : tie.Need-cast-record-offset-2
 cast-record-offset-2 c = record { fits = omega (arith, head _ (c .before .before .before .before .before .pre)) }
 
--- src/proposing.rt:47:52
 sub-record-offset : tie.Need-sub-record-offset
 sub-record-offset c = search needs
 
--- src/proposing.rt:47:9
 record-offset-requires : tie.Need-record-offset-requires
 record-offset-requires c κs = omega (arith, head _ (c .before .before .before .before .before .pre))
 
--- src/proposing.rt:48:9
 record-at-requires : tie.Need-record-at-requires
 record-at-requires c κs = record-on _ _ _ (c .before .before .before .before .before .before .before .pre) (omega arith) (omega arith) (c .before .record-offset .ensures)
 
--- src/proposing.rt:50:9
 same-length : tie.Need-same-length
 same-length c = search needs
 
--- src/proposing.rt:50:9
 returns-3 : tie.Need-returns-3
 returns-3 c = thirteen _ _ _ (c .before .before .before .before .before .before .before .before .before .before .pre) (omega arith) (omega arith) _ (own-record _ _ _ _ (c .before .before .before .before .record-offset .ensures) (c .before .before .record-at .ensures)) (omega arith)
 
--- src/proposing.rt:52:27
 beginning-requires : tie.Need-beginning-requires
 beginning-requires c κs = search needs
 
--- src/proposing.rt:52:5
 put-record-requires : tie.Need-put-record-requires
 put-record-requires c κs = record-on _ _ _ (c .before .before .before .before .before .before .before .before .before .before .before .before .pre) (omega arith) (omega arith) (c .before .before .before .before .before .before .record-offset .ensures)
 
--- src/proposing.rt:35:1
 same-length-2 : tie.Need-same-length-2
 same-length-2 c = search needs
 
--- src/proposing.rt:35:1
 returns-4 : tie.Need-returns-4
 returns-4 c = taken _ _ _ (c .before .before .before .before .before .before .before .before .before .before .before .before .before .before .before .pre) (omega arith) (omega arith) _ (own-record _ _ _ _ (c .before .before .before .before .before .before .before .before .before .record-offset .ensures) (c .before .before .before .before .before .before .before .record-at .ensures)) (omega arith) _ _ _ (c .before .before .before .before .before .before .before .before .before .record-offset .ensures) (c .before .before .before .beginning .ensures ∙ ap (λ (z : Figure). recordFields (proposed z)) (toZ-ofZ (c .before .before .before .before .before .before .before .before .before .before .before .before .before .before .before .fits .figure))) (c .before .before .put-record .ensures)
 

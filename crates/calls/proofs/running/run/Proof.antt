@@ -6,52 +6,37 @@ use Rattle.calls.proofs.Laws.Checking.{passed}
 use Rattle.calls.proofs.Laws.Running.{too-many, board-refuses, runs-below, ran-through}
 use Rattle.calls.proofs.running.run.Statement.{statement}
 use Rattle.calls.proofs.running.run.Tie as tie
-use Rattle.calls.proofs.running.run.Reads as reads
-use Rattle.calls.proofs.running.run.Lts as lts
-use Rattle.calls.proofs.running.run_on.Reads as run-on-reads
-use Rattle.soundness.proofs.board.check_board.Reads as check-board-reads
 
--- src/running.rt:52:9
 returns : tie.Need-returns
 returns c = too-many _ _ (omega arith)
 
--- src/running.rt:54:9
 check-board-requires : tie.Need-check-board-requires
 check-board-requires c κs = search needs
 
--- src/running.rt:56:28
 enum-known-checked : tie.Need-enum-known-checked
 enum-known-checked c = search needs
 
--- src/running.rt:58:25
 enum-told : tie.Need-enum-told
 enum-told c = search needs
 
--- src/running.rt:58:25
 cast-total : tie.Need-cast-total
 cast-total c = search needs
 
--- src/running.rt:59:17
 run-on-requires : tie.Need-run-on-requires
 run-on-requires c κs = (passed _ _ (c .before .enum-told .given .1) (c .before .before .before .check-board .ensures), omega arith)
 
--- src/running.rt:60:46
 sub-t15 : tie.Need-sub-t15
 sub-t15 c = runs-below _ _ _ _ (c .before .before .run-on .ensures)
 
--- src/running.rt:48:1
 same-length : tie.Need-same-length
 same-length c = search needs
 
--- src/running.rt:48:1
 returns-2 : tie.Need-returns-2
 returns-2 c = board-refuses _ _ (omega arith) (c .before .before .before .check-board .result) _ (c .before .checked .given .1) (c .before .before .before .check-board .ensures)
 
--- src/running.rt:48:1
 same-length-2 : tie.Need-same-length-2
 same-length-2 c = search needs
 
--- src/running.rt:48:1
 returns-3 : tie.Need-returns-3
 returns-3 c = ran-through _ _ (omega arith) (passed _ _ (c .before .before .before .before .enum-told .given .1) (c .before .before .before .before .before .before .check-board .ensures)) _ _ _ (c .before .before .run-on .ensures) refl
 

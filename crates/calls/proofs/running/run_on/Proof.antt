@@ -8,10 +8,6 @@ use borrow.Author.Needs.{needs}
 use Rattle.calls.proofs.Laws.Running.{After-i, begun, again, small, ended}
 use Rattle.calls.proofs.running.run_on.Statement.{statement}
 use Rattle.calls.proofs.running.run_on.Tie as tie
-use Rattle.calls.proofs.running.run_on.Reads as reads
-use Rattle.calls.proofs.running.run_on.Lts as lts
-use Rattle.calls.proofs.running.taken.Reads as taken-reads
-use Rattle.calls.proofs.sound_step.step_on.Reads as step-on-reads
 
 abbrev Inv-loop : tie.InvT-loop
 Inv-loop board₀ stations count₀ i₀ board count i = After-i stations board₀ i board count × (length board ≡ length board₀)
@@ -19,43 +15,33 @@ Inv-loop board₀ stations count₀ i₀ board count i = After-i stations board�
 abbrev μ-loop : tie.MeasureT-loop
 μ-loop board₀ stations count₀ i₀ board count i = length stations - i
 
--- src/running.rt:40:5
 loop-holds : tie.Need-loop-holds Inv-loop μ-loop
 loop-holds c = (begun _ _ (c .before .before .pre .0), refl)
 
--- src/running.rt:41:37
 shared-slice-read-step-on : tie.Need-shared-slice-read-step-on Inv-loop μ-loop
 shared-slice-read-step-on c = search needs
 
--- src/running.rt:41:13
 step-on-requires : tie.Need-step-on-requires Inv-loop μ-loop
 step-on-requires c κs = c .before .before .before .loop .inv .0 .sound
 
--- src/running.rt:42:18
 taken-requires : tie.Need-taken-requires Inv-loop μ-loop
 taken-requires c κs = search needs
 
--- src/running.rt:42:9
 add-count : tie.Need-add-count Inv-loop μ-loop
 add-count c = record { fits = small _ _ _ _ _ (c .before .before .before .before .before .before .before .loop .inv .0) (c .before .before .before .before .before .before .before .before .before .before .pre .1) _ _ (c .taken .ensures) }
 
--- src/running.rt:43:9
 add-i : tie.Need-add-i Inv-loop μ-loop
 add-i c = search needs
 
--- src/running.rt:40:5
 loop-less : tie.Need-loop-less Inv-loop μ-loop
 loop-less c = search needs
 
--- src/running.rt:40:5
 loop-again : tie.Need-loop-again Inv-loop μ-loop
 loop-again c = (again _ _ _ _ _ (c .before .before .before .before .before .before .before .loop .inv .0) (omega arith) _ _ (c .before .before .before .step-on .ensures) _ (c .taken .ensures), search needs)
 
--- src/running.rt:34:1
 same-length : tie.Need-same-length Inv-loop μ-loop
 same-length c = c .before .loop .inv .1
 
--- src/running.rt:34:1
 returns : tie.Need-returns Inv-loop μ-loop
 returns c = ended _ _ _ _ _ (c .before .loop .inv .0) (omega arith)
 

@@ -6,77 +6,59 @@ use Rattle.model.specs.Told.{told}
 use Rattle.calls.specs.Stepped.{counts}
 use Rattle.calls.proofs.running.taken.Statement.{statement}
 use Rattle.calls.proofs.running.taken.Tie as tie
-use Rattle.calls.proofs.running.taken.Reads as reads
-use Rattle.calls.proofs.running.taken.Lts as lts
 
--- src/running.rt:22:30
 enum-told : tie.Need-enum-told
 enum-told c = search needs
 
--- src/running.rt:23:29
 enum-told-2 : tie.Need-enum-told-2
 enum-told-2 c = search needs
 
--- src/running.rt:24:54
 enum-told-3 : tie.Need-enum-told-3
 enum-told-3 c = search needs
 
--- src/running.rt:25:54
 enum-told-4 : tie.Need-enum-told-4
 enum-told-4 c = search needs
 
--- src/running.rt:26:57
 enum-told-5 : tie.Need-enum-told-5
 enum-told-5 c = search needs
 
--- src/running.rt:27:57
 enum-told-6 : tie.Need-enum-told-6
 enum-told-6 c = search needs
 
--- src/running.rt:28:55
 enum-told-7 : tie.Need-enum-told-7
 enum-told-7 c = search needs
 
--- src/running.rt:29:46
 enum-told-8 : tie.Need-enum-told-8
 enum-told-8 c = search needs
 
--- src/running.rt:18:1
 returns : tie.Need-returns
 unfolding counts told accepted
 returns c = sym (ap counts (c .enum-told .given .1))
 
--- src/running.rt:18:1
 returns-2 : tie.Need-returns-2
 unfolding counts told accepted
 returns-2 c = sym (ap counts (c .enum-told2 .given .1))
 
--- src/running.rt:18:1
 returns-3 : tie.Need-returns-3
 unfolding counts told accepted
 returns-3 c = sym (ap counts (c .enum-told3 .given .1))
 
--- src/running.rt:18:1
 returns-4 : tie.Need-returns-4
 unfolding counts told accepted
 returns-4 c = sym (ap counts (c .enum-told4 .given .1))
 
--- src/running.rt:18:1
 returns-5 : tie.Need-returns-5
 unfolding counts told accepted
 returns-5 c = sym (ap counts (c .enum-told5 .given .1))
 
--- src/running.rt:18:1
 returns-6 : tie.Need-returns-6
 unfolding counts told accepted
 returns-6 c = sym (ap counts (c .enum-told6 .given .1))
 
--- src/running.rt:18:1
 returns-7 : tie.Need-returns-7
 unfolding counts told accepted
 returns-7 c = sym (ap counts (c .enum-told7 .given .1))
 
--- src/running.rt:18:1
 returns-8 : tie.Need-returns-8
 unfolding counts told accepted
 returns-8 c = sym (ap counts (c .enum-told8 .given .1))

@@ -2,10 +2,7 @@
 use Rattle.calls.proofs.Laws.Showing.{not-shown}
 use Rattle.calls.proofs.showing.not_shown.Statement.{statement}
 use Rattle.calls.proofs.showing.not_shown.Tie as tie
-use Rattle.calls.proofs.showing.not_shown.Reads as reads
-use Rattle.calls.proofs.showing.not_shown.Lts as lts
 
--- src/showing.rt:22:1
 returns : tie.Need-returns
 returns c = not-shown _
 

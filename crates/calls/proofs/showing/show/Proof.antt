@@ -5,37 +5,25 @@ use Rattle.calls.proofs.Laws.Checking.{passed}
 use Rattle.calls.proofs.Laws.Showing.{shows, refused-shown}
 use Rattle.calls.proofs.showing.show.Statement.{statement}
 use Rattle.calls.proofs.showing.show.Tie as tie
-use Rattle.calls.proofs.showing.show.Reads as reads
-use Rattle.calls.proofs.showing.show.Lts as lts
-use Rattle.calls.proofs.showing.not_shown.Reads as not-shown-reads
-use Rattle.calls.proofs.showing.show_on.Reads as show-on-reads
-use Rattle.soundness.proofs.board.check_board.Reads as check-board-reads
 
--- src/showing.rt:65:9
 check-board-requires : tie.Need-check-board-requires
 check-board-requires c κs = search needs
 
--- src/showing.rt:67:28
 enum-known-checked : tie.Need-enum-known-checked
 enum-known-checked c = search needs
 
--- src/showing.rt:67:40
 not-shown-requires : tie.Need-not-shown-requires
 not-shown-requires c κs = search needs
 
--- src/showing.rt:68:30
 enum-told : tie.Need-enum-told
 enum-told c = search needs
 
--- src/showing.rt:68:30
 show-on-requires : tie.Need-show-on-requires
 show-on-requires c κs = passed _ _ (c .enum-told .given .1) (c .before .before .check-board .ensures)
 
--- src/showing.rt:62:1
 returns : tie.Need-returns
 returns c = c .not-shown .ensures ∙ refused-shown _ (c .before .before .before .before .check-board .result) _ (c .before .before .checked .given .1) (c .before .before .before .before .check-board .ensures)
 
--- src/showing.rt:62:1
 returns-2 : tie.Need-returns-2
 returns-2 c = c .show-on .ensures ∙ shows _ (passed _ _ (c .before .enum-told .given .1) (c .before .before .before .check-board .ensures))
 

@@ -3,20 +3,13 @@ use borrow.Author.Needs.{needs}
 use Rattle.calls.proofs.Laws.Showing.{closes, shown-on}
 use Rattle.calls.proofs.showing.show_on.Statement.{statement}
 use Rattle.calls.proofs.showing.show_on.Tie as tie
-use Rattle.calls.proofs.showing.show_on.Reads as reads
-use Rattle.calls.proofs.showing.show_on.Lts as lts
-use Rattle.calls.proofs.showing.stations_of.Reads as stations-of-reads
-use Rattle.shown.proofs.status.closed.Reads as closed-reads
 
--- src/showing.rt:53:23
 stations-of-requires : tie.Need-stations-of-requires
 stations-of-requires c κs = search needs
 
--- src/showing.rt:53:9
 closed-requires : tie.Need-closed-requires
 closed-requires c κs = closes _ (c .before .before .pre) _ (c .stations-of .ensures)
 
--- src/showing.rt:49:1
 returns : tie.Need-returns
 returns c = shown-on _ (c .before .before .before .before .pre) _ _ (c .before .before .stations-of .ensures) (c .before .closed .ensures)
 

@@ -8,12 +8,6 @@ use Rattle.calls.proofs.Laws.Stepping.{head}
 use Rattle.calls.proofs.Laws.Showing.{fits-one, one-more, begins, all-open, value-at, record-inside-at}
 use Rattle.calls.proofs.showing.stations_of.Statement.{statement}
 use Rattle.calls.proofs.showing.stations_of.Tie as tie
-use Rattle.calls.proofs.showing.stations_of.Reads as reads
-use Rattle.calls.proofs.showing.stations_of.Lts as lts
-use Rattle.calls.proofs.places.record_offset.Reads as record-offset-reads
-use Rattle.codec.proofs.records.record_at.Reads as record-at-reads
-use Rattle.shown.proofs.status.opened.Reads as opened-reads
-use Rattle.shown.proofs.status.put_status.Reads as put-status-reads
 
 abbrev Inv-loop : tie.InvT-loop
 Inv-loop board n k line₀ j₀ line j = (j ≤ n) × Holds line (openTo j board)
@@ -21,63 +15,48 @@ Inv-loop board n k line₀ j₀ line j = (j ≤ n) × Holds line (openTo j board
 abbrev μ-loop : tie.MeasureT-loop
 μ-loop board n k line₀ j₀ line j = n - j
 
--- src/showing.rt:37:13
 shared-slice-read-n : tie.Need-shared-slice-read-n Inv-loop μ-loop
 shared-slice-read-n c = omega (arith, head _ (c .before .before .pre))
 
--- src/showing.rt:37:13
 cast-n : tie.Need-cast-n Inv-loop μ-loop
 cast-n c = record { fits = omega (arith, head _ (c .before .before .pre)) }
 
--- src/showing.rt:38:13
 shared-slice-read-k : tie.Need-shared-slice-read-k Inv-loop μ-loop
 shared-slice-read-k c = omega (arith, head _ (c .before .before .before .pre))
 
--- src/showing.rt:38:13
 cast-k : tie.Need-cast-k Inv-loop μ-loop
 cast-k c = record { fits = omega (arith, head _ (c .before .before .before .pre)) }
 
--- src/showing.rt:39:9
 opened-requires : tie.Need-opened-requires Inv-loop μ-loop
 opened-requires c κs = tt
 
--- src/showing.rt:41:5
 loop-holds : tie.Need-loop-holds Inv-loop μ-loop
 loop-holds c = (omega arith, begins _ (c .before .before .before .before .pre) _ (c .opened .ensures))
 
--- src/showing.rt:42:36
 record-offset-requires : tie.Need-record-offset-requires Inv-loop μ-loop
 record-offset-requires c κs = omega (arith, head _ (c .before .before .before .before .before .before .pre))
 
--- src/showing.rt:42:13
 record-at-requires : tie.Need-record-at-requires Inv-loop μ-loop
 record-at-requires c κs = record-inside-at _ _ _ (c .before .before .before .before .before .before .before .pre) (omega arith) (c .record-offset .ensures)
 
--- src/showing.rt:43:34
 add-put-status : tie.Need-add-put-status Inv-loop μ-loop
 add-put-status c = record { fits = omega (arith, head _ (c .before .before .before .before .before .before .before .before .pre)) }
 
--- src/showing.rt:43:33
 cast-put-status : tie.Need-cast-put-status Inv-loop μ-loop
 cast-put-status c = record { fits = omega (arith, head _ (c .before .before .before .before .before .before .before .before .pre)) }
 
--- src/showing.rt:43:9
 put-status-requires : tie.Need-put-status-requires Inv-loop μ-loop
 put-status-requires c κs = fits-one _ (c .before .before .before .before .before .before .before .before .pre) _ _ _ _ (c .before .before .before .loop .inv .1) (omega arith) refl (value-at _ _ _ _ (c .before .record-offset .ensures) (c .record-at .ensures))
 
--- src/showing.rt:44:9
 add-j : tie.Need-add-j Inv-loop μ-loop
 add-j c = record { fits = omega (arith, head _ (c .before .before .before .before .before .before .before .before .before .pre)) }
 
--- src/showing.rt:41:5
 loop-less : tie.Need-loop-less Inv-loop μ-loop
 loop-less c = omega arith
 
--- src/showing.rt:41:5
 loop-again : tie.Need-loop-again Inv-loop μ-loop
 loop-again c = (omega arith, one-more _ (c .before .before .before .before .before .before .before .before .before .pre) _ _ _ _ _ (c .before .before .before .before .loop .inv .1) refl (value-at _ _ _ _ (c .before .before .record-offset .ensures) (c .before .record-at .ensures)) (c .put-status .ensures))
 
--- src/showing.rt:33:1
 returns : tie.Need-returns Inv-loop μ-loop
 returns c = all-open _ (c .before .before .before .before .before .before .pre) _ _ (c .before .loop .inv .1) (omega arith) (omega arith)
 

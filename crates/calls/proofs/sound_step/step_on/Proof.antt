@@ -5,81 +5,58 @@ use borrow.Author.Needs.{needs}
 use Rattle.calls.proofs.Laws.Stepping.{head, all-bytes, twelve-low, twelve-high, own-record, record-on, fourteen, fifteen, sixteen, on-size, is-ready, accepted}
 use Rattle.calls.proofs.sound_step.step_on.Statement.{statement}
 use Rattle.calls.proofs.sound_step.step_on.Tie as tie
-use Rattle.calls.proofs.sound_step.step_on.Reads as reads
-use Rattle.calls.proofs.sound_step.step_on.Lts as lts
-use Rattle.calls.proofs.places.record_offset.Reads as record-offset-reads
-use Rattle.calls.proofs.stepping.access.Reads as access-reads
-use Rattle.codec.proofs.records.record_at.Reads as record-at-reads
 
--- src/sound_step.rt:18:13
 slice-read-n : tie.Need-slice-read-n
 slice-read-n c = omega (arith, head _ (c .before .before .pre))
 
--- src/sound_step.rt:19:13
 slice-read-k : tie.Need-slice-read-k
 slice-read-k c = omega (arith, head _ (c .before .before .before .pre))
 
--- src/sound_step.rt:21:9
 returns : tie.Need-returns
 returns c = twelve-low _ _ (omega arith)
 
--- src/sound_step.rt:24:9
 returns-2 : tie.Need-returns-2
 returns-2 c = twelve-high _ _ (omega arith)
 
--- src/sound_step.rt:26:13
 sub-j : tie.Need-sub-j
 sub-j c = search needs
 
--- src/sound_step.rt:27:28
 cast-record-offset : tie.Need-cast-record-offset
 cast-record-offset c = record { fits = omega (arith, head _ (c .before .before .before .before .before .pre)) }
 
--- src/sound_step.rt:27:40
 cast-record-offset-2 : tie.Need-cast-record-offset-2
 cast-record-offset-2 c = record { fits = omega (arith, head _ (c .before .before .before .before .before .pre)) }
 
--- src/sound_step.rt:27:9
 record-offset-requires : tie.Need-record-offset-requires
 record-offset-requires c κs = omega (arith, head _ (c .before .before .before .before .before .pre))
 
--- src/sound_step.rt:28:9
 record-at-requires : tie.Need-record-at-requires
 record-at-requires c κs = record-on _ _ _ (c .before .before .before .before .before .before .before .pre) (omega arith) (omega arith) (c .before .record-offset .ensures)
 
--- src/sound_step.rt:30:9
 same-length : tie.Need-same-length
 same-length c = search needs
 
--- src/sound_step.rt:30:9
 returns-3 : tie.Need-returns-3
 returns-3 c = fourteen _ _ (omega arith) (omega arith) _ (own-record _ _ _ _ (c .before .before .before .before .record-offset .ensures) (c .before .before .record-at .ensures)) (c .if3 .taken)
 
--- src/sound_step.rt:33:9
 same-length-2 : tie.Need-same-length-2
 same-length-2 c = search needs
 
--- src/sound_step.rt:33:9
 returns-4 : tie.Need-returns-4
 returns-4 c = fifteen _ _ (omega arith) (omega arith) _ (own-record _ _ _ _ (c .before .before .before .before .before .before .record-offset .ensures) (c .before .before .before .before .record-at .ensures)) (c .if4 .taken)
 
--- src/sound_step.rt:36:9
 same-length-3 : tie.Need-same-length-3
 same-length-3 c = search needs
 
--- src/sound_step.rt:36:9
 returns-5 : tie.Need-returns-5
 returns-5 c = sixteen _ _ (omega arith) (omega arith) _ (own-record _ _ _ _ (c .before .before .before .before .before .before .before .before .record-offset .ensures) (c .before .before .before .before .before .before .record-at .ensures)) (c .if5 .taken)
 
--- src/sound_step.rt:38:5
 access-requires : tie.Need-access-requires
 access-requires c κs = (is-ready _ _ (omega arith) (omega arith) _ (own-record _ _ _ _ (c .before .before .before .before .before .before .before .before .before .record-offset .ensures) (c .before .before .before .before .before .before .before .record-at .ensures)) (c .before .before .before .before .before .before .before .before .before .before .before .before .before .before .before .pre) (all-bytes _ (λ i. c .before .before .before .before .before .before .before .before .before .before .before .before .before .before .slice-known .given i .fits)) (omega arith) (omega arith), on-size _ _ (omega arith) (omega arith) _ (own-record _ _ _ _ (c .before .before .before .before .before .before .before .before .before .record-offset .ensures) (c .before .before .before .before .before .before .before .record-at .ensures)) (c .before .before .before .before .before .before .before .before .before .before .before .before .before .before .before .pre) (all-bytes _ (λ i. c .before .before .before .before .before .before .before .before .before .before .before .before .before .before .slice-known .given i .fits)), c .before .before .before .before .before .before .before .before .before .record-offset .ensures)
 
--- src/sound_step.rt:14:1
 same-length-4 : tie.Need-same-length-4
 same-length-4 c = search needs
 
--- src/sound_step.rt:14:1
 returns-6 : tie.Need-returns-6
 returns-6 c = accepted _ _ (omega arith) (omega arith) _ (own-record _ _ _ _ (c .before .before .before .before .before .before .before .before .before .before .before .before .record-offset .ensures) (c .before .before .before .before .before .before .before .before .before .before .record-at .ensures)) (c .before .before .before .before .before .before .before .before .before .before .before .before .before .before .before .before .before .before .pre) (all-bytes _ (λ i. c .before .before .before .before .before .before .before .before .before .before .before .before .before .before .before .before .before .slice-known .given i .fits)) (omega arith) (omega arith) _ _ (c .before .before .access .ensures)
 

@@ -8,100 +8,75 @@ use Rattle.model.specs.Layout.{rowOf, registerAt, writingOf, readingOf, ofPhase
 use Rattle.calls.proofs.Laws.Touching.{touch}
 use Rattle.calls.proofs.stepping.touched.Statement.{statement}
 use Rattle.calls.proofs.stepping.touched.Tie as tie
-use Rattle.calls.proofs.stepping.touched.Reads as reads
-use Rattle.calls.proofs.stepping.touched.Lts as lts
-use Rattle.calls.proofs.places.register_offset.Reads as register-offset-reads
 
--- src/stepping.rt:24:18
 cast-island : tie.Need-cast-island
 cast-island c = search needs
 
--- src/stepping.rt:25:16
 cast-next : tie.Need-cast-next
 cast-next c = search needs
 
--- src/stepping.rt:27:9
 register-offset-requires : tie.Need-register-offset-requires
 register-offset-requires c κs = search needs
 
--- src/stepping.rt:27:9
 returns : tie.Need-returns
 unfolding ofPhase writingOf readingOf registerAt rowOf placeArray placeColumn array
 returns c = touch _ _ _ 1 (writing turnM _ _) _ (omega arith) refl (c .register-offset .ensures)
 
--- src/stepping.rt:30:9
 register-offset-requires-2 : tie.Need-register-offset-requires-2
 register-offset-requires-2 c κs = search needs
 
--- src/stepping.rt:30:9
 returns-2 : tie.Need-returns-2
 unfolding ofPhase writingOf readingOf registerAt rowOf placeArray placeColumn array
 returns-2 c = touch _ _ _ 2 (reading turnM _ _ _ _) _ (omega arith) refl (c .register-offset2 .ensures)
 
--- src/stepping.rt:33:46
 mul-register-offset : tie.Need-mul-register-offset
 mul-register-offset c = search needs
 
--- src/stepping.rt:33:42
 add-register-offset : tie.Need-add-register-offset
 add-register-offset c = search needs
 
--- src/stepping.rt:33:9
 register-offset-requires-3 : tie.Need-register-offset-requires-3
 register-offset-requires-3 c κs = search needs
 
--- src/stepping.rt:33:9
 returns-3 : tie.Need-returns-3
 unfolding ofPhase writingOf readingOf registerAt rowOf placeArray placeColumn array
 returns-3 c = touch _ _ _ 3 (writing turnA _ _) _ (omega arith) refl (c .register-offset3 .ensures)
 
--- src/stepping.rt:36:46
 mul-register-offset-2 : tie.Need-mul-register-offset-2
 mul-register-offset-2 c = search needs
 
--- src/stepping.rt:36:42
 add-register-offset-2 : tie.Need-add-register-offset-2
 add-register-offset-2 c = search needs
 
--- src/stepping.rt:36:9
 register-offset-requires-4 : tie.Need-register-offset-requires-4
 register-offset-requires-4 c κs = search needs
 
--- src/stepping.rt:36:9
 returns-4 : tie.Need-returns-4
 unfolding ofPhase writingOf readingOf registerAt rowOf placeArray placeColumn array
 returns-4 c = touch _ _ _ 4 (reading turnA _ _ _ _) _ (omega arith) refl (c .register-offset4 .ensures)
 
--- src/stepping.rt:39:46
 mul-register-offset-3 : tie.Need-mul-register-offset-3
 mul-register-offset-3 c = search needs
 
--- src/stepping.rt:39:42
 add-register-offset-3 : tie.Need-add-register-offset-3
 add-register-offset-3 c = search needs
 
--- src/stepping.rt:39:9
 register-offset-requires-5 : tie.Need-register-offset-requires-5
 register-offset-requires-5 c κs = search needs
 
--- src/stepping.rt:39:9
 returns-5 : tie.Need-returns-5
 unfolding ofPhase writingOf readingOf registerAt rowOf placeArray placeColumn array
 returns-5 c = touch _ _ _ 5 (writing (turnB _) _ _) _ (omega arith) refl (c .register-offset5 .ensures)
 
--- src/stepping.rt:41:35
 mul-register-offset-4 : tie.Need-mul-register-offset-4
 mul-register-offset-4 c = search needs
 
--- src/stepping.rt:41:31
 add-register-offset-4 : tie.Need-add-register-offset-4
 add-register-offset-4 c = search needs
 
--- src/stepping.rt:41:5
 register-offset-requires-6 : tie.Need-register-offset-requires-6
 register-offset-requires-6 c κs = search needs
 
--- src/stepping.rt:19:1
 returns-6 : tie.Need-returns-6
 unfolding ofPhase writingOf readingOf registerAt rowOf placeArray placeColumn array
 returns-6 c = touch _ _ _ 6 (reading (turnB _) _ _ _ _) _ (omega arith) refl (c .register-offset6 .ensures)
