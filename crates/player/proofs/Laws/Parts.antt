@@ -3,13 +3,13 @@
 use mathlib.Core.Path.{_≡_, refl, sym, ap, _∙_}
 use mathlib.Core.Bool.{Bool, true, false}
 use mathlib.Core.Logic.{_⊎_, inl, inr, ⊎-elim}
-use mathlib.Core.List.{List, []}
-use Prim.Native.Nat.{ℕ, _+_, _-_, _≤_, _<_, min}
+use mathlib.Core.List.{List}
+use Prim.Native.Nat.{ℕ, _-_, _≤_, _<_, min}
 use native.Mathlib.Nat.{min-eq-left}
 use native.Mathlib.Omega.{arith}
 use lib.Dec.{leb}
-use lib.ListN.{length, take, drop}
-use lib.Seq.{length-take-le, take-all, drop-length, drop-nil, drop-drop}
+use lib.ListN.{length, take, drop, drop-of-length-le}
+use lib.Seq.{length-take-le, take-all}
 use borrow.Author.Tests.{leb-true, leb-false}
 
 -- one of two numbers is the lesser
@@ -19,13 +19,6 @@ either a b = by (leb a b) refl
     by : (t : Bool) → leb a b ≡ t → (a ≤ b) ⊎ (b < a)
     by true e = inl (leb-true a b e)
     by false e = inr (leb-false a b e)
-
--- nothing stands behind the end
-pub drop-past : {A : Type 0} (n : ℕ) (l : List A) → length l ≤ n → drop n l ≡ []
-drop-past n l h =
-    let e : n ≡ length l + (n - length l) = omega arith in
-    ap (λ (k : ℕ). drop k l) e ∙ sym (drop-drop (n - length l) (length l) l)
-    ∙ ap (drop (n - length l)) (drop-length l) ∙ drop-nil (n - length l)
 
 module _ (k p : ℕ) (m : List ℕ) (e : p ≡ min k (length m)) where
   pub part-length : p ≡ length (take p m)
@@ -39,4 +32,4 @@ module _ (k p : ℕ) (m : List ℕ) (e : p ≡ min k (length m)) where
   pub part-left : drop p m ≡ drop k m
   part-left =
       ⊎-elim (λ (h : k ≤ length m). ap (λ (j : ℕ). drop j m) (e ∙ min-eq-left h))
-      (λ (h : length m < k). drop-past p m (omega arith) ∙ sym (drop-past k m (omega arith))) (either k (length m))
+      (λ (h : length m < k). drop-of-length-le m {i = p} (omega arith) ∙ sym (drop-of-length-le m {i = k} (omega arith))) (either k (length m))

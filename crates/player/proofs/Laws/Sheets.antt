@@ -6,7 +6,7 @@ use mathlib.Core.List.{List, [], _∷_, _++_, append-assoc, append-nil}
 use Prim.Native.Nat.{ℕ, zero, suc, _+_, _-_, _≤_, _<_}
 use native.Mathlib.Omega.{arith}
 use lib.Dec.{eqb, leb, ltb}
-use lib.ListN.{length, take, drop, replicate, length-drop}
+use lib.ListN.{length, take, drop, replicate, length-drop, drop-of-length-le}
 use lib.Seq.{take-length, drop-drop}
 use borrow.Author.Tests.{le-leb, lt-leb, lt-ltb, le-ltb, leb-true, leb-false}
 use Rattle.bytes.specs.Bytes.{slice, indexOf, indexAfter}
@@ -150,13 +150,6 @@ unfoldable pub leftOf : (sheet : List ℕ) (at laid : ℕ) (m : List ℕ) → Li
 leftOf s at laid m =
     cond (leb (length s) 32768) (printed laid m (linesOf (drop at s))) (cond (ltb at (length s)) (refusedText 1 ++ (10 ∷ [])) [])
 
-drop-all : (at : ℕ) (s : List ℕ) → length s ≤ at → drop at s ≡ []
-drop-all at s h = none (drop at s) (simp length-drop (omega arith))
-  where
-    none : (t : List ℕ) → length t ≡ 0 → t ≡ []
-    none [] e = refl
-    none (b ∷ u) e = absurd (omega arith)
-
 module _ (s : List ℕ) (laid : ℕ) (m : List ℕ) where
   left-short : (at : ℕ) → length s ≤ 32768 → leftOf s at laid m ≡ printed laid m (linesOf (drop at s))
   unfolding leftOf
@@ -171,7 +164,7 @@ module _ (s : List ℕ) (laid : ℕ) (m : List ℕ) where
   left-none at h = by (leb (length s) 32768) refl
     where
       by : (t : Bool) → leb (length s) 32768 ≡ t → leftOf s at laid m ≡ []
-      by true e = rw e (ap (λ (t : List ℕ). printed laid m (linesOf t)) (drop-all at s h))
+      by true e = rw e (ap (λ (t : List ℕ). printed laid m (linesOf t)) (drop-of-length-le s h))
       by false e = rw (e, le-ltb at (length s) h)
 
 -- at the start it is all that the sheet prints

@@ -9,7 +9,7 @@ use native.Mathlib.Nat.{mul-le-mul-right}
 use native.Mathlib.Numerals.{add-one}
 use native.Mathlib.Omega.{arith}
 use lib.Dec.{ltb}
-use lib.ListN.{length, getD, drop}
+use lib.ListN.{length, getD, drop, drop-of-length-le}
 use borrow.Author.Tests.{ltb-true, ltb-false}
 use Rattle.model.specs.declared.StepAnswer.{StepAnswer}
 use Rattle.model.specs.Calls.{boardRefusal}
@@ -18,7 +18,6 @@ use Rattle.model.proofs.Sheet.Limits.{length-repeated}
 use Rattle.sheet.specs.declared.number.FoundNumber.{FoundNumber}
 use Rattle.sheet.specs.declared.number.FoundNumber.the-variants.{At, Missing}
 use Rattle.sheet.specs.Placed.{numberAt, NumberIs, TimesIs}
-use Rattle.sheet.proofs.Laws.Places.{nothing-left}
 use Rattle.sheet.proofs.Laws.Items.{as-number, as-times}
 use Rattle.calls.specs.Stepped.{StepsOn, RunsOn, counts}
 use Rattle.calls.proofs.Laws.Running.{runs-below}
@@ -60,7 +59,7 @@ module _ (line : List ℕ) (at : ℕ) where
 
   pub item-inside : ItemReads line at → at < length line
   unfolding itemIn number natural andThen found
-  item-inside r = inside-if (λ l. nothing (r .fuel) (rw (nothing-left line at l) at (r .read)))
+  item-inside r = inside-if (λ l. nothing (r .fuel) (rw (drop-of-length-le line l) at (r .read)))
     where
       nothing : (k : ℕ) → itemIn k [] ≡ found (r .value) (r .rest) → ⊥
       nothing zero e = never _ e
@@ -68,7 +67,7 @@ module _ (line : List ℕ) (at : ℕ) where
 
   pub items-inside : (k : ℕ) (r : Read Items) → itemsIn k (drop at line) ≡ some r → at < length line
   unfolding itemsIn spaced andThen found
-  items-inside k r e = inside-if (λ l. nothing k (rw (nothing-left line at l) at e))
+  items-inside k r e = inside-if (λ l. nothing k (rw (drop-of-length-le line l) at e))
     where
       nothing : (k : ℕ) → itemsIn k [] ≡ some r → ⊥
       nothing zero e = never r e

@@ -7,7 +7,7 @@ use mathlib.Core.Option.{Option, none, some}
 use Prim.Native.Nat.{ℕ, _+_, _≤_, _<_}
 use native.Mathlib.Omega.{arith}
 use lib.IntN.{ℤ}
-use lib.ListN.{length, drop}
+use lib.ListN.{length, drop, drop-of-length-le}
 use mir.Syntax.{w8}
 use mir.Val.{Fits}
 use Rattle.model.specs.Show.{text}
@@ -23,7 +23,7 @@ use Rattle.sheet.specs.declared.form.LineForm.the-variants.{Board, Propo
 use Rattle.sheet.specs.Placed.{SpacedIs, FigureIs}
 use Rattle.sheet.specs.Counts.{countedAt, sized, ItemsAre}
 use Rattle.sheet.specs.Lines.{lineForm}
-use Rattle.sheet.proofs.Laws.Places.{here, nothing-left}
+use Rattle.sheet.proofs.Laws.Places.{here}
 use Rattle.sheet.proofs.Laws.Spaced.{number-missed, number-found, number-inside, figure-missed, figure-found}
 
 module _ (line : List ℕ) (at : ℕ) (first : FoundNumber) (is : SpacedIs line at first) where
@@ -79,7 +79,7 @@ upToEnd o = andThen o λ is rest. cond (same rest []) (some (forms.steps is)) no
 
 ends : (line : List ℕ) (next : ℕ) → length line ≤ next → same (drop next line) [] ≡ true
 unfolding same
-ends line next h = rw (nothing-left line next h)
+ends line next h = rw (drop-of-length-le line h)
 
 goes-on : (line : List ℕ) (next : ℕ) → next < length line → same (drop next line) [] ≡ false
 unfolding same

@@ -9,7 +9,7 @@ use Prim.Native.Nat.{ℕ, zero, suc, _+_, _*_, _-_, _≤_, _<_}
 use native.Mathlib.Nat.{mul-le-mul-left, mul-le-mul-right, le-trans}
 use native.Mathlib.Omega.{arith}
 use lib.Dec.{leb}
-use lib.ListN.{length, getD, drop, length-append}
+use lib.ListN.{length, getD, drop, length-append, drop-of-length-le}
 use borrow.Author.Tests.{leb-true, leb-false, eq-eqb, ne-eqb}
 use Rattle.model.specs.Forms.{Item, station, times, Items, next, repeated, expandItem, expand, Read, found, andThen, spaced, number, natural, itemIn, itemsIn}
 use Rattle.model.proofs.Sheet.Limits.{length-repeated}
@@ -19,7 +19,7 @@ use Rattle.sheet.specs.declared.item.Counted.{Counted}
 use Rattle.sheet.specs.declared.item.Counted.the-variants.{Steps, Missing}
 use Rattle.sheet.specs.Placed.{numberAt, NumberIs, TimesIs}
 use Rattle.sheet.specs.Counts.{capped, countedAt, CountedInside, sized, ItemIs, ItemsAre}
-use Rattle.sheet.proofs.Laws.Places.{nothing-left, first-byte, behind-first, left-over}
+use Rattle.sheet.proofs.Laws.Places.{first-byte, behind-first, left-over}
 
 -- ---- the steps of items, by their number
 
@@ -108,7 +108,7 @@ module _ (line : List ℕ) (at : ℕ) where
 
   pub no-item : length line ≤ at → ItemIs line at Missing
   unfolding itemIn number natural andThen sized countedAt
-  no-item h = item-is Missing tt (λ fuel l. rw (nothing-left line at h))
+  no-item h = item-is Missing tt (λ fuel l. rw (drop-of-length-le line h))
 
   module _ (no-bracket : getD line at 0 ≡ 40 → ⊥) (r : FoundNumber) (is : NumberIs line at 0 99 r) where
     pub as-number : (fuel : ℕ) → itemIn (suc fuel) (drop at line) ≡ andThen (numberAt line r) λ i rest. found (station i) rest
@@ -186,7 +186,7 @@ module _ (line : List ℕ) (at place total : ℕ) (along : Along line at place t
 
   pub no-more : length line ≤ place → ItemsAre line at Missing
   unfolding itemsIn spaced andThen sized more countedAt
-  no-more h = items-are Missing tt (λ fuel l. rw (nothing-left line place h))
+  no-more h = items-are Missing tt (λ fuel l. rw (drop-of-length-le line h))
 
   module _ (inside : place < length line) where
     pub closed : getD line place 0 ≡ 41 → ItemsAre line at (Steps total (place + 1))

@@ -7,13 +7,13 @@ use mathlib.Core.Option.{none}
 use Prim.Native.Nat.{ℕ, _+_, _*_, _-_, _≤_, _<_}
 use native.Mathlib.Omega.{arith}
 use lib.Dec.{eqb, leb}
-use lib.ListN.{length, getD, drop}
+use lib.ListN.{length, getD, drop, drop-of-length-le}
 use borrow.Author.Tests.{le-leb, lt-leb, eq-eqb, ne-eqb}
 use Rattle.model.specs.Forms.{Read, found, andThen, digit, digitsFrom, natural, number}
 use Rattle.sheet.specs.declared.number.FoundNumber.{FoundNumber}
 use Rattle.sheet.specs.declared.number.FoundNumber.the-variants.{At, Missing}
 use Rattle.sheet.specs.Placed.{numberAt, NumberInside, upTo, DigitsIs, NumberIs}
-use Rattle.sheet.proofs.Laws.Places.{here, nothing-left}
+use Rattle.sheet.proofs.Laws.Places.{here}
 
 is-digit : (b : ℕ) → 48 ≤ b → b ≤ 57 → digit b ≡ true
 unfolding digit
@@ -97,7 +97,7 @@ module _ (line : List ℕ) (at v high : ℕ) where
 
     pub ended : length line ≤ next → DigitsIs line at v high (At value next)
     unfolding digitsFrom
-    ended h = stopped-at (rw (nothing-left line next h))
+    ended h = stopped-at (rw (drop-of-length-le line h))
 
 -- ---- a number by its first byte
 
@@ -117,7 +117,7 @@ module _ (line : List ℕ) (at low high : ℕ) where
 
   pub no-byte : length line ≤ at → NumberIs line at low high Missing
   unfolding number natural andThen
-  no-byte h = none-there (rw (nothing-left line at h))
+  no-byte h = none-there (rw (drop-of-length-le line h))
 
   module _ (inside : at < length line) where
     no-digit : (getD line at 0 ≡ 48 → ⊥) → digit (getD line at 0) ≡ false → NumberIs line at low high Missing

@@ -6,7 +6,7 @@ use mathlib.Core.Option.{Option, none}
 use Prim.Native.Nat.{ℕ, suc, _+_, _-_, _≤_, _<_}
 use native.Mathlib.Omega.{arith}
 use lib.IntN.{ℤ, pos, negsuc}
-use lib.ListN.{length, getD, drop, List·getD-eq-default}
+use lib.ListN.{length, getD, drop, List·getD-eq-default, drop-of-length-le}
 use lib.Seq.{drop-drop}
 use mir.Syntax.{w32}
 use mir.Val.{toZ, SFits}
@@ -19,7 +19,7 @@ use Rattle.sheet.specs.declared.number.FoundNumber.the-variants as numbe
 use Rattle.sheet.specs.declared.number.FoundFigure.{FoundFigure}
 use Rattle.sheet.specs.declared.number.FoundFigure.the-variants as signed
 use Rattle.sheet.specs.Placed.{numberAt, figureAt, NumberInside, NumberIs, SpacedIs, FigureIs, FigureInside}
-use Rattle.sheet.proofs.Laws.Places.{first-byte, behind-first, nothing-left}
+use Rattle.sheet.proofs.Laws.Places.{first-byte, behind-first}
 
 -- ---- a space in front
 
@@ -110,7 +110,7 @@ module _ (line : List ℕ) (at : ℕ) where
   module _ (space : getD line at 0 ≡ 32) where
     pub figure-cut : length line ≤ at + 1 → FigureIs line at signed.Missing
     unfolding figureIn number natural andThen
-    figure-cut h = no-figure (space-read figureIn line at space ∙ rw (nothing-left line (at + 1) h))
+    figure-cut h = no-figure (space-read figureIn line at space ∙ rw (drop-of-length-le line h))
 
     -- behind the space, by the sign
     minus-read : getD line (at + 1) 0 ≡ 45
