@@ -1,0 +1,236 @@
+-- Lines that are handed back: what each return of a call that hands one back has to show.
+-- Relies on the model's lines and forms; the proofs of `lines` rely on it.
+use mathlib.Core.Path.{_≡_, refl, sym, ap, _∙_, subst}
+use mathlib.Core.Bool.{Bool, true, false, cond, _&&_}
+use mathlib.Core.List.{List, [], _∷_, _++_}
+use mathlib.Core.Option.{Option, none, some}
+use Prim.Native.Nat.{ℕ, _+_, _*_, _≤_, _<_}
+use native.Mathlib.Nat.{mul-le-mul}
+use native.Mathlib.Omega.{arith}
+use lib.Dec.{eqb, leb, leb→le}
+use lib.ListN.{length, take, drop, length-append, length-replicate}
+use lib.Seq.{take-all}
+use borrow.Author.Tests.{lt-leb, le-leb}
+use Rattle.model.specs.declared.ShownLine.{ShownLine}
+use Rattle.model.specs.Layout.{boardLength}
+use Rattle.model.specs.Calls as calls
+use Rattle.model.specs.Calls.{After, Refusal, unless, shapeRefusal, boardRefusal}
+use Rattle.model.specs.Show.{text, textFrom, shownLine, shownAs, Shown, show}
+use Rattle.model.specs.Told.{verdict, shownTold}
+use Rattle.model.specs.Forms.{Form, Word, boardWord, proposeWord, stepsWord, showWord, same, wordOf, firstWord, formWord, Reading, reads, unread, readLine}
+use Rattle.model.specs.Forms as forms
+use Rattle.model.specs.Sheet as model
+use Rattle.model.specs.Sheet.{turnedDown, playBoard, onBoard, playForm, playReading, playLine}
+use Rattle.model.proofs.Basics.Tests.{true-T}
+use Rattle.model.proofs.Sheet.WrittenBack.{same-text}
+use Rattle.model.proofs.Calls.Refusals.{Shape, shape-of, some-none, call-case, unless-none, board-of}
+use Rattle.player.specs.declared.line.Played.{Played}
+use Rattle.player.specs.Played.{Plays}
+use Rattle.capi.specs.Packing.{packVerdict}
+use Rattle.capi.specs.Lines.{handed, filled, inRoom, playable, packWord, packShow, packPlayed}
+
+-- ---- words
+
+one-of : (w t : List ℕ) (b : Bool) → same w t ≡ b → length t ≤ 7 → (v : Word) (o : Option Word) → length {A = ℕ} (elim o [ none ↦ [] | some u ↦ w ]) ≤ 7
+    → length {A = ℕ} (elim (cond b (some v) o) [ none ↦ [] | some u ↦ w ]) ≤ 7
+one-of w t true e h v o l = subst (λ (x : List ℕ). length x ≤ 7) (sym (same-text w t (true-T (same w t) e))) h
+one-of w t false e h v o l = l
+
+-- "propose" is the longest
+short-word : (l : List ℕ) → length (formWord l) ≤ 7
+unfolding formWord wordOf text textFrom
+short-word l =
+    one-of (firstWord l) (text "board") _ refl (omega arith) boardWord _
+    (one-of (firstWord l) (text "propose") _ refl (omega arith) proposeWord _
+    (one-of (firstWord l) (text "steps") _ refl (omega arith) stepsWord _
+    (one-of (firstWord l) (text "show") _ refl (omega arith) showWord none (omega arith))))
+
+packs-none : (w : List ℕ) → length w ≡ 0 → 0 ≡ packWord w
+unfolding packWord
+packs-none [] e = refl
+packs-none (b ∷ w) e = absurd (omega arith)
+
+packs-some : (w : List ℕ) → (length w ≡ 0 → ⊥) → 1 + length w * 4294967296 ≡ packWord w
+unfolding packWord
+packs-some [] f = absurd (f refl)
+packs-some (b ∷ w) f = refl
+
+module _ (l w : List ℕ) (e : w ≡ formWord l) where
+  pub word-none : length w ≡ 0 → 0 ≡ packWord (formWord l)
+  word-none h = packs-none w h ∙ ap packWord e
+
+  pub word-fits : length w ≤ 7
+  word-fits = subst (λ (x : List ℕ). length x ≤ 7) (sym e) (short-word l)
+
+  pub word-some : (length w ≡ 0 → ⊥) → 1 + length w * 4294967296 ≡ packWord (formWord l)
+  word-some f = packs-some w f ∙ ap packWord e
+
+-- ---- a lent buffer
+
+-- 512 bytes that are copied to the front of a buffer
+copied : (l d e : List ℕ) (n : ℕ) → n ≡ length l → length l ≡ 512 → e ≡ take n l ++ drop n d → e ≡ handed l d
+unfolding handed
+copied l d e n p q h =
+    h ∙ (λ i. take (p i) l ++ drop ((p ∙ q) i) d) ∙ ap (λ (x : List ℕ). x ++ drop 512 d) (take-all (length l) l (omega arith))
+
+module _ {A : Type 0} (d : List ℕ) (given other : A) where
+  no-room : length d < 512 → other ≡ inRoom d given other
+  unfolding inRoom
+  no-room h = sym (ap (λ (t : Bool). cond t given other) (lt-leb 512 (length d) h))
+
+  room : 512 ≤ length d → given ≡ inRoom d given other
+  unfolding inRoom
+  room h = sym (ap (λ (t : Bool). cond t given other) (le-leb 512 (length d) h))
+
+  module _ (laid : ℕ) where
+    too-short : length d < 512 → other ≡ playable laid d given other
+    unfolding playable
+    too-short h = sym (ap (λ (t : Bool). cond (t && leb laid 4294967295) given other) (lt-leb 512 (length d) h))
+
+    module _ (h : 512 ≤ length d) where
+      tested : playable laid d given other ≡ cond (leb laid 4294967295) given other
+      unfolding playable
+      tested = ap (λ (t : Bool). cond (t && leb laid 4294967295) given other) (le-leb 512 (length d) h)
+
+      too-large : 4294967295 < laid → other ≡ playable laid d given other
+      too-large l = sym (tested ∙ ap (λ (t : Bool). cond t given other) (lt-leb laid 4294967295 l))
+
+      played : laid ≤ 4294967295 → given ≡ playable laid d given other
+      played l = sym (tested ∙ ap (λ (t : Bool). cond t given other) (le-leb laid 4294967295 l))
+
+-- ---- showing
+
+shown-fits : (b : List ℕ) → (length (show b .line) ≡ 512) × (show b .len ≤ 512)
+unfolding show shownAs
+shown-fits b = go (boardRefusal b (unless (leb (length (shownLine b)) 512) 17 none)) refl
+  where
+    go : (r : Refusal) → boardRefusal b (unless (leb (length (shownLine b)) 512) 17 none) ≡ r
+        → (length (shownAs r (shownLine b) .line) ≡ 512) × (shownAs r (shownLine b) .len ≤ 512)
+    go none e =
+        let h : length (shownLine b) ≤ 512 = leb→le (length (shownLine b)) 512 (unless-none (leb (length (shownLine b)) 512) 17 none (board-of b _ e .1) .0) in
+        (simp (length-append, length-replicate) (omega arith), h)
+    go (some k) e = (length-replicate {A = ℕ} 512 0, omega arith)
+
+pub show-refused : (b d : List ℕ) → length d < 512
+    → (4294967295 ≡ inRoom d (packShow (show b)) 4294967295) × (d ≡ inRoom d (handed (show b .line) d) d)
+show-refused b d h = (no-room d _ _ h, no-room d _ _ h)
+
+module _ (b : List ℕ) (s : ShownLine) (told : shownTold s ≡ show b) where
+  its-bytes : s .bytes ≡ show b .line
+  unfolding shownTold
+  its-bytes = ap (λ (q : Shown). q .line) told
+
+  its-length : length (s .bytes) ≡ 512
+  its-length = ap length its-bytes ∙ shown-fits b .0
+
+  pub len-fits : s .len ≤ 512
+  unfolding shownTold
+  len-fits = subst (λ (k : ℕ). k ≤ 512) (sym (ap (λ (q : Shown). q .len) told)) (shown-fits b .1)
+
+  module _ (d : List ℕ) (h : 512 ≤ length d) where
+    pub line-fits : length (s .bytes) ≤ length d
+    line-fits = omega (arith, its-length)
+
+    pub show-given : (k n : ℕ) (e : List ℕ) → k ≡ packVerdict (verdict (s .verdict)) → n ≡ length (s .bytes) → e ≡ take n (s .bytes) ++ drop n d
+        → (k + s .len * 65536 ≡ inRoom d (packShow (show b)) 4294967295) × (e ≡ inRoom d (handed (show b .line) d) d)
+    unfolding packShow shownTold
+    show-given k n e p q c = (
+      ap (λ (x : ℕ). x + s .len * 65536) p ∙ ap packShow told ∙ room d _ _ h,
+      copied (s .bytes) d e n q its-length c ∙ ap (λ (l : List ℕ). handed l d) its-bytes ∙ room d _ _ h,
+    )
+
+-- ---- playing
+
+-- what is laid stays, but for a board of at most 16,904 bytes that is laid
+lay-shape : (n K : ℕ) (b : List ℕ) → calls.lay n K b .answer ≡ none → Shape n K b
+unfolding calls.lay
+lay-shape n K b =
+    call-case (λ (a : After Refusal). a .answer ≡ none → Shape n K b) (shapeRefusal n K b none) some b _ (λ e f. shape-of n K b none e .0)
+    (λ k e f. some-none k f)
+
+board-small : (n K : ℕ) → n ≤ 16 → K ≤ 64 → boardLength n K ≤ 16904
+unfolding boardLength
+board-small n K h l = omega (arith, mul-le-mul h l)
+
+abbrev Small : model.Played → Type 0
+Small p = p .laid ≤ 4294967295
+
+module _ (laid : ℕ) (m : List ℕ) (h : laid ≤ 4294967295) where
+  either : (t : Bool) (p q : model.Played) → p .laid ≡ laid → q .laid ≡ laid → cond t p q .laid ≡ laid
+  either true p q e f = e
+  either false p q e f = f
+
+  on-laid : {A : Type 0} (printed : A → List ℕ) (call : List ℕ → After A) → Small (onBoard laid m printed call)
+  unfolding onBoard turnedDown
+  on-laid printed call =
+      omega (
+        arith,
+        either (eqb laid 0) (turnedDown laid m 5)
+            (record { printed = printed (call (take laid m) .answer); laid = laid; memory = call (take laid m) .bytes ++ drop laid m }) refl refl,
+      )
+
+  answered : (a : Refusal) (p : model.Played) → (a ≡ none → Small p)
+      → Small (elim a [ none ↦ p | some k ↦ turnedDown laid m k ])
+  unfolding turnedDown
+  answered none p f = f refl
+  answered (some k) p f = h
+
+  form-laid : (f : Form) → Small (playForm laid m f)
+  unfolding playForm playBoard
+  form-laid (forms.board n K) =
+      answered (calls.lay n K (take (boardLength n K) m) .answer) _
+      (λ e. let s = lay-shape n K (take (boardLength n K) m) e in omega (arith, board-small n K (s .stations-high) (s .islands-high)))
+  form-laid (forms.propose i v) = on-laid _ _
+  form-laid (forms.steps is) = on-laid _ _
+  form-laid forms.show = on-laid _ _
+
+  reading-laid : (r : Reading) → Small (playReading laid m r)
+  unfolding playReading turnedDown
+  reading-laid (reads f) = form-laid f
+  reading-laid (unread k) = h
+
+  line-laid : (l : List ℕ) → Small (playLine laid m l)
+  unfolding playLine
+  line-laid l = reading-laid (readLine l)
+
+module _ (l m : List ℕ) (laid : ℕ) (r : Played) (e : List ℕ) (plays : Plays (playLine laid m l) r e) where
+  its-line : r .line .bytes ≡ filled (playLine laid m l .printed)
+  unfolding filled
+  its-line = plays .line .bytes
+
+  line-length : length (r .line .bytes) ≡ 512
+  unfolding filled
+  line-length = ap length its-line ∙ simp (length-append, length-replicate) (omega (arith, plays .short))
+
+  pub printed-fits : (d : List ℕ) → 512 ≤ length d → length (r .line .bytes) ≤ length d
+  printed-fits d h = omega (arith, line-length)
+
+  pub laid-fits : laid ≤ 4294967295 → r .laid ≤ 4294967295
+  laid-fits few = subst (λ (k : ℕ). k ≤ 4294967295) (sym (plays .laid)) (line-laid laid m few l)
+
+  pub len-small : r .line .len < 512
+  len-small = omega (arith, plays .line .len, plays .short)
+
+module _ (l m d : List ℕ) (laid : ℕ) where
+  abbrev Answers : ℕ → List ℕ → List ℕ → Type 0
+  Answers r e p =
+      (r ≡ playable laid d (packPlayed (playLine laid m l)) 18446744073709551615)
+      × (e ≡ playable laid d (playLine laid m l .memory) m)
+      × (p ≡ playable laid d (handed (filled (playLine laid m l .printed)) d) d)
+
+  pub play-short : length d < 512 → Answers 18446744073709551615 m d
+  play-short h = (too-short d _ _ laid h, too-short d _ _ laid h, too-short d _ _ laid h)
+
+  module _ (h : 512 ≤ length d) where
+    pub play-large : 4294967295 < laid → Answers 18446744073709551615 m d
+    play-large k = (too-large d _ _ laid h k, too-large d _ _ laid h k, too-large d _ _ laid h k)
+
+    pub play-given : laid ≤ 4294967295 → (r : Played) (e : List ℕ) → Plays (playLine laid m l) r e
+        → (n : ℕ) (p : List ℕ) → n ≡ length (r .line .bytes) → p ≡ take n (r .line .bytes) ++ drop n d → Answers (r .line .len + r .laid * 65536) e p
+    unfolding packPlayed
+    play-given few r e plays n p q c = (
+      (λ i. plays .line .len i + plays .laid i * 65536) ∙ played d _ _ laid h few,
+      plays .memory ∙ played d _ _ laid h few,
+      copied (r .line .bytes) d p n q (line-length l m laid r e plays) c ∙ ap (λ (x : List ℕ). handed x d) (its-line l m laid r e plays)
+          ∙ played d _ _ laid h few,
+    )

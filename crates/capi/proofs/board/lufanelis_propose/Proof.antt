@@ -1,0 +1,23 @@
+-- `board::lufanelis_propose` meets its contract: the call's own, with the verdict packed.
+-- Relies on the laws of the packing.
+use borrow.Author.Needs.{needs}
+use mir.Facts.{toZ-ofZ}
+use Rattle.capi.proofs.Laws.Packing.{proposes}
+use Rattle.capi.proofs.board.lufanelis_propose.Statement.{statement}
+use Rattle.capi.proofs.board.lufanelis_propose.Tie as tie
+
+propose-requires : tie.Need-propose-requires
+propose-requires c κs = search needs
+
+verdict-number-requires : tie.Need-verdict-number-requires
+verdict-number-requires c κs = search needs
+
+same-length : tie.Need-same-length
+same-length c = search needs
+
+returns : tie.Need-returns
+returns c = proposes _ _ _ _ _ _ _ (toZ-ofZ (search needs)) (c .verdict-number .ensures) (c .before .before .before .propose .ensures)
+
+pub lufanelis-propose-spec : {M : Type 1} → statement M
+lufanelis-propose-spec =
+    tie.close (tie.spec propose-requires verdict-number-requires same-length returns)

@@ -1,0 +1,44 @@
+-- `packing::told_of` meets its contract: nothing wraps, and each part stands at its place.
+-- Relies on the laws of the packing.
+use borrow.Author.Needs.{needs}
+use mir.Facts.{toZ-ofZ}
+use Rattle.capi.proofs.Laws.Packing.{told-is}
+use Rattle.capi.proofs.packing.told_of.Statement.{statement}
+use Rattle.capi.proofs.packing.told_of.Tie as tie
+
+mul-result : tie.Need-mul-result
+mul-result c = search needs
+
+mul-result-2 : tie.Need-mul-result-2
+mul-result-2 c = search needs
+
+add-result : tie.Need-add-result
+add-result c = search needs
+
+figure-bits-requires : tie.Need-figure-bits-requires
+figure-bits-requires c κs = search needs
+
+cast-result : tie.Need-cast-result
+cast-result c = search needs
+
+mul-result-3 : tie.Need-mul-result-3
+mul-result-3 c = search needs
+
+add-result-2 : tie.Need-add-result-2
+add-result-2 c = search needs
+
+returns : tie.Need-returns
+returns c = told-is _ _ _ _ _ (toZ-ofZ (search needs)) (c .figure-bits .ensures)
+
+pub told-of-spec : {M : Type 1} → statement M
+told-of-spec =
+    tie.close
+    (tie.spec
+    mul-result
+    mul-result-2
+    add-result
+    figure-bits-requires
+    cast-result
+    mul-result-3
+    add-result-2
+    returns)

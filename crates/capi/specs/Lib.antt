@@ -1,0 +1,3 @@
+-- What the calls for C answer: each answer as one number.
+pub mod Packing
+pub mod Lines

@@ -1,0 +1,40 @@
+-- Lines that are handed back in a lent buffer, and their answers as numbers.
+-- Relies on the model's lines; the contracts of the calls for C rely on it.
+use Prim.Native.Nat.{ℕ, _+_, _*_, _-_}
+use mathlib.Core.Bool.{cond, _&&_}
+use mathlib.Core.List.{List, [], _∷_, _++_}
+use lib.Dec.{leb}
+use lib.ListN.{length, drop, replicate}
+use Rattle.model.specs.Show.{Shown}
+use Rattle.model.specs.Sheet.{Played}
+use Rattle.capi.specs.Packing.{packVerdict}
+
+-- the 512 bytes of a line at the front of a buffer, and the rest as it was
+unfoldable pub handed : (line buffer : List ℕ) → List ℕ
+handed l d = l ++ drop 512 d
+
+-- "zeros after the line"
+unfoldable pub filled : List ℕ → List ℕ
+filled l = l ++ replicate (512 - length l) 0
+
+module _ {A : Type 0} where
+  -- what a call gives that has room for its line, and what one without it gives
+  unfoldable pub inRoom : (buffer : List ℕ) → A → A → A
+  inRoom d given other = cond (leb 512 (length d)) given other
+
+  -- and one whose board's length is a number of 32 bits besides
+  unfoldable pub playable : (laid : ℕ) (buffer : List ℕ) → A → A → A
+  playable laid d given other = cond (leb 512 (length d) && leb laid 4294967295) given other
+
+-- bits 0 to 7 the refusal's number, 16 to 31 the line's length
+unfoldable pub packShow : Shown → ℕ
+packShow s = packVerdict (s .refusal) + s .len * 65536
+
+-- bits 0 to 31 where the word starts in the line, 32 to 63 its length; 0 for no word
+unfoldable pub packWord : List ℕ → ℕ
+packWord [] = 0
+packWord (b ∷ w) = 1 + length (b ∷ w) * 4294967296
+
+-- bits 0 to 15 the length of what is printed, 16 to 63 how many bytes of the memory are the board that was laid last
+unfoldable pub packPlayed : Played → ℕ
+packPlayed p = length (p .printed) + p .laid * 65536

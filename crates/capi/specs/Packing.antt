@@ -1,0 +1,37 @@
+-- Answers as numbers: the place of each part is a factor, so that the parts stand side by side in the bits.
+-- Relies on the model's answers; the contracts of the calls for C rely on it.
+use Prim.Native.Nat.{ℕ, _+_, _*_}
+use mathlib.Core.Option.{none, some}
+use mir.Syntax.{w32}
+use mir.Val.{ofZ}
+use Rattle.model.specs.Figure.{Figure}
+use Rattle.model.specs.Listing.{Answer, wrote, read, went, marked, adopted, decided, spent, refused}
+use Rattle.model.specs.Calls.{Refusal, RunAnswer, ran, notRun}
+
+-- a figure's 32 bits of two's complement, as a number
+unfoldable pub bits : Figure → ℕ
+bits v = ofZ w32 v
+
+-- bits 0 to 7 the refusal's number, 8 to 15 the kind, 16 to 23 the island or the flag, 32 to 63 the figure
+unfoldable pub packed : (number kind field figure : ℕ) → ℕ
+packed number kind field figure = number + kind * 256 + field * 65536 + figure * 4294967296
+
+-- 0 for an accepted call
+unfoldable pub packVerdict : Refusal → ℕ
+packVerdict none = 0
+packVerdict (some k) = k
+
+unfoldable pub packStep : Answer Figure → ℕ
+packStep wrote = packed 0 1 0 0
+packStep read = packed 0 2 0 0
+packStep (went c v) = packed 0 3 c (bits v)
+packStep (marked f v) = packed 0 4 f (bits v)
+packStep (adopted c v) = packed 0 5 c (bits v)
+packStep (decided c v) = packed 0 6 c (bits v)
+packStep (spent c v) = packed 0 7 c (bits v)
+packStep (refused k) = packed k 0 0 0
+
+-- bits 0 to 7 the refusal's number, 8 to 31 the steps taken, 32 to 55 the steps passed over
+unfoldable pub packRun : RunAnswer → ℕ
+packRun (ran s t) = s * 256 + t * 4294967296
+packRun (notRun k) = k

@@ -1,0 +1,48 @@
+// The calls on a lent board, for C.
+// Relies on the calls and on the packing of their answers; a station's firmware relies on it.
+ghost use mathlib.Core.Path.{_≡_};
+ghost use mathlib.Core.Option.{none};
+ghost use Rattle.model.specs.Calls.{boardRefusal, lay, propose, step, run};
+ghost use Rattle.capi.specs.Packing.{packVerdict, packStep, packRun};
+use crate::packing::step_number;
+use crate::packing::verdict_number;
+use model::RunVerdict;
+
+#[no_mangle]
+pub extern "C" fn lufanelis_lay(board: &mut [u8], n: u8, k: u8) -> u8
+    ensures { λ r. ⌜ (r ≡ packVerdict (lay n k (now (board .entry)) .answer)) × (now (board .exit) ≡ lay n k (now (board .entry)) .bytes) ⌝ }
+{
+    verdict_number(calls::lay(board, n, k))
+}
+
+#[no_mangle]
+pub extern "C" fn lufanelis_propose(board: &mut [u8], station: u8, figure: i32) -> u8
+    ensures { λ r. ⌜ (r ≡ packVerdict (propose station figure (now (board .entry)) .answer)) × (now (board .exit) ≡ propose station figure (now (board .entry)) .bytes) ⌝ }
+{
+    verdict_number(calls::propose(board, station, figure))
+}
+
+#[no_mangle]
+pub extern "C" fn lufanelis_check(board: &[u8]) -> u8
+    ensures { λ r. ⌜ r ≡ packVerdict (boardRefusal (now (board .entry)) none) ⌝ }
+{
+    verdict_number(calls::check_board(board))
+}
+
+#[no_mangle]
+pub extern "C" fn lufanelis_step(board: &mut [u8], station: u8) -> u64
+    ensures { λ r. ⌜ (r ≡ packStep (step station (now (board .entry)) .answer)) × (now (board .exit) ≡ step station (now (board .entry)) .bytes) ⌝ }
+{
+    step_number(calls::step(board, station))
+}
+
+#[no_mangle]
+pub extern "C" fn lufanelis_run(board: &mut [u8], stations: &[u8]) -> u64
+    ensures { λ r. ⌜ (r ≡ packRun (run (now (stations .entry)) (now (board .entry)) .answer)) × (now (board .exit) ≡ run (now (stations .entry)) (now (board .entry)) .bytes) ⌝ }
+{
+    let answer = calls::run(board, stations);
+    match answer {
+        RunVerdict::Refused { number } => number as u64,
+        RunVerdict::Ran { taken, passed } => taken as u64 * 256 + passed as u64 * 4294967296,
+    }
+}

@@ -1,0 +1,47 @@
+// Answers packed into one number.
+// Relies on the codec for a figure's bits; every exported call relies on it.
+ghost use mathlib.Core.Path.{_≡_};
+ghost use Rattle.model.specs.Told.{told, verdict};
+ghost use Rattle.capi.specs.Packing.{bits, packed, packVerdict, packStep};
+use codec::figures::figure_bytes;
+use codec::figures::word_at;
+use model::StepAnswer;
+use model::Verdict;
+
+pub fn verdict_number(answer: Verdict) -> u8
+    ensures { λ r. ⌜ r ≡ packVerdict (verdict answer) ⌝ }
+{
+    match answer {
+        Verdict::Accepted => 0,
+        Verdict::Refused { number } => number,
+    }
+}
+
+// The bytes that a board would hold, read as one number; compiled, no instruction.
+fn figure_bits(figure: i32) -> u32
+    ensures { λ r. ⌜ r ≡ bits figure ⌝ }
+{
+    let bytes = figure_bytes(figure);
+    word_at(&bytes, 0)
+}
+
+fn told_of(kind: u8, field: u8, figure: i32) -> u64
+    ensures { λ r. ⌜ r ≡ packed 0 kind field (bits figure) ⌝ }
+{
+    kind as u64 * 256 + field as u64 * 65536 + figure_bits(figure) as u64 * 4294967296
+}
+
+pub fn step_number(answer: StepAnswer) -> u64
+    ensures { λ r. ⌜ r ≡ packStep (told answer) ⌝ }
+{
+    match answer {
+        StepAnswer::Wrote => 256,
+        StepAnswer::Read => 512,
+        StepAnswer::Went { island, figure } => told_of(3, island, figure),
+        StepAnswer::Marked { flag, figure } => told_of(4, flag, figure),
+        StepAnswer::Adopted { island, figure } => told_of(5, island, figure),
+        StepAnswer::Decided { island, figure } => told_of(6, island, figure),
+        StepAnswer::Spent { island, figure } => told_of(7, island, figure),
+        StepAnswer::Refused { number } => number as u64,
+    }
+}
