@@ -100,7 +100,7 @@ module _ {A : Type 0} (d : List ℕ) (given other : A) where
 
 -- ---- showing
 
-shown-fits : (b : List ℕ) → (length (show b .line) ≡ 512) × (show b .len ≤ 512)
+pub shown-fits : (b : List ℕ) → (length (show b .line) ≡ 512) × (show b .len ≤ 512)
 unfolding show shownAs
 shown-fits b = go (boardRefusal b (unless (leb (length (shownLine b)) 512) 17 none)) refl
   where

@@ -1,0 +1,92 @@
+-- What is packed can be read back: each part stands in its own bits, so no two answers are one number, and no answer of
+-- `show` is the number for a buffer that is too short.
+-- Relies on the packing's definitions; nothing relies on it but the reader of an answer.
+use mathlib.Core.Path.{_≡_, refl, ap}
+use mathlib.Core.Bool.{Bool, true, false, _&&_}
+use mathlib.Core.List.{List}
+use mathlib.Core.Option.{none, some}
+use Prim.Native.Nat.{ℕ, _+_, _*_, _/_, _%_, _≤_, _<_}
+use native.Mathlib.Omega.{arith}
+use lib.Dec.{eqb, leb}
+use lib.ListN.{length}
+use Rattle.model.specs.Layout.{boardLength}
+use Rattle.model.specs.Sound.{sound}
+use Rattle.model.specs.Calls.{Refusal, unless, stations, islands, shapeRefusal, boardRefusal, ran}
+use Rattle.model.specs.Show.{shownLine, shownAs, show}
+use Rattle.capi.specs.Packing.{packed, packVerdict, packRun}
+use Rattle.capi.specs.Lines.{packShow}
+use Rattle.capi.proofs.Laws.Lines.{shown-fits}
+
+-- a step's four parts; the code's kind and island, or flag, are bytes
+module _ (number kind field figure : ℕ) (n : number < 256) (k : kind < 256) (f : field < 256) where
+  pub the-number : packed number kind field figure % 256 ≡ number
+  unfolding packed
+  the-number = omega arith
+
+  pub the-kind : packed number kind field figure / 256 % 256 ≡ kind
+  unfolding packed
+  the-kind = omega arith
+
+  pub the-field : packed number kind field figure / 65536 % 65536 ≡ field
+  unfolding packed
+  the-field = omega arith
+
+  pub the-figure : packed number kind field figure / 4294967296 ≡ figure
+  unfolding packed
+  the-figure = omega arith
+
+-- a run's counts
+module _ (s t : ℕ) (h : s ≤ 65536) where
+  pub no-number : packRun (ran s t) % 256 ≡ 0
+  unfolding packRun
+  no-number = omega arith
+
+  pub the-taken : packRun (ran s t) / 256 % 16777216 ≡ s
+  unfolding packRun
+  the-taken = omega arith
+
+  pub the-passed : packRun (ran s t) / 4294967296 ≡ t
+  unfolding packRun
+  the-passed = omega arith
+
+-- ---- a shown line's answer
+
+listed : (t : Bool) (k : ℕ) (later : Refusal) → k ≤ 17 → packVerdict later ≤ 17 → packVerdict (unless t k later) ≤ 17
+unfolding unless packVerdict
+listed true k later h l = l
+listed false k later h l = h
+
+board-listed : (b : List ℕ) (later : Refusal) → packVerdict later ≤ 17 → packVerdict (boardRefusal b later) ≤ 17
+unfolding boardRefusal shapeRefusal
+board-listed b later h =
+    listed (leb 8 (length b)) 7 _ (omega arith)
+    (listed (leb 1 (stations b) && leb (stations b) 16) 8 _ (omega arith)
+    (listed (leb 2 (islands b) && leb (islands b) 64) 9 _ (omega arith)
+    (listed (eqb (length b) (boardLength (stations b) (islands b))) 10 _ (omega arith)
+    (listed (sound (stations b) (islands b) b) 11 later (omega arith) h))))
+
+its-refusal : (r : Refusal) (l : List ℕ) → shownAs r l .refusal ≡ r
+unfolding shownAs
+its-refusal none l = refl
+its-refusal (some k) l = refl
+
+shown-listed : (b : List ℕ) → packVerdict (show b .refusal) ≤ 17
+unfolding show packVerdict
+shown-listed b =
+    omega (
+      arith,
+      ap packVerdict (its-refusal (boardRefusal b (unless (leb (length (shownLine b)) 512) 17 none)) (shownLine b)),
+      board-listed b (unless (leb (length (shownLine b)) 512) 17 none) (listed (leb (length (shownLine b)) 512) 17 none (omega arith) (omega arith)),
+    )
+
+pub never-all-ones : (b : List ℕ) → packShow (show b) < 4294967295
+unfolding packShow
+never-all-ones b = omega (arith, shown-listed b, shown-fits b .1)
+
+pub the-refusal : (b : List ℕ) → packShow (show b) % 65536 ≡ packVerdict (show b .refusal)
+unfolding packShow
+the-refusal b = omega (arith, shown-listed b)
+
+pub the-length : (b : List ℕ) → packShow (show b) / 65536 ≡ show b .len
+unfolding packShow
+the-length b = omega (arith, shown-listed b)
