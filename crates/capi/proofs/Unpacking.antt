@@ -1,9 +1,9 @@
--- What is packed can be read back: each part stands in its own bits, so no two answers are one number, and no answer of
--- `show` is the number for a buffer that is too short.
+-- What is packed can be read back: each part stands in its own bits, so no two answers are one number, and no line that is
+-- handed back answers with the number for a buffer that is too short.
 -- Relies on the packing's definitions; nothing relies on it but the reader of an answer.
 use mathlib.Core.Path.{_≡_, refl, ap}
 use mathlib.Core.Bool.{Bool, true, false, _&&_}
-use mathlib.Core.List.{List}
+use mathlib.Core.List.{List, _∷_}
 use mathlib.Core.Option.{none, some}
 use Prim.Native.Nat.{ℕ, _+_, _*_, _/_, _%_, _≤_, _<_}
 use native.Mathlib.Omega.{arith}
@@ -13,9 +13,12 @@ use Rattle.model.specs.Layout.{boardLength}
 use Rattle.model.specs.Sound.{sound}
 use Rattle.model.specs.Calls.{Refusal, unless, stations, islands, shapeRefusal, boardRefusal, ran}
 use Rattle.model.specs.Show.{shownLine, shownAs, show}
+use Rattle.model.specs.Sheet.{playLine}
+use Rattle.player.specs.declared.line.Played.{Played}
+use Rattle.player.specs.Played.{Plays}
 use Rattle.capi.specs.Packing.{packed, packVerdict, packRun}
-use Rattle.capi.specs.Lines.{packShow}
-use Rattle.capi.proofs.Laws.Lines.{shown-fits}
+use Rattle.capi.specs.Lines.{packShow, packWord, packPlayed}
+use Rattle.capi.proofs.Laws.Lines.{shown-fits, line-laid}
 
 -- a step's four parts; the code's kind and island, or flag, are bytes
 module _ (number kind field figure : ℕ) (n : number < 256) (k : kind < 256) (f : field < 256) where
@@ -79,9 +82,9 @@ shown-listed b =
       board-listed b (unless (leb (length (shownLine b)) 512) 17 none) (listed (leb (length (shownLine b)) 512) 17 none (omega arith) (omega arith)),
     )
 
-pub never-all-ones : (b : List ℕ) → packShow (show b) < 4294967295
+pub shown-never-all-ones : (b : List ℕ) → packShow (show b) < 4294967295
 unfolding packShow
-never-all-ones b = omega (arith, shown-listed b, shown-fits b .1)
+shown-never-all-ones b = omega (arith, shown-listed b, shown-fits b .1)
 
 pub the-refusal : (b : List ℕ) → packShow (show b) % 65536 ≡ packVerdict (show b .refusal)
 unfolding packShow
@@ -90,3 +93,28 @@ the-refusal b = omega (arith, shown-listed b)
 pub the-length : (b : List ℕ) → packShow (show b) / 65536 ≡ show b .len
 unfolding packShow
 the-length b = omega (arith, shown-listed b)
+
+-- ---- a word that was found
+
+pub the-start : (b : ℕ) (w : List ℕ) → packWord (b ∷ w) % 4294967296 ≡ 1
+unfolding packWord
+the-start b w = omega arith
+
+pub its-length : (b : ℕ) (w : List ℕ) → packWord (b ∷ w) / 4294967296 ≡ length (b ∷ w)
+unfolding packWord
+its-length b w = omega arith
+
+-- ---- a line that was played: what the player promises of it bounds both parts
+
+module _ (l m : List ℕ) (laid : ℕ) (few : laid ≤ 4294967295) (r : Played) (e : List ℕ) (plays : Plays (playLine laid m l) r e) where
+  pub played-never-all-ones : packPlayed (playLine laid m l) < 18446744073709551615
+  unfolding packPlayed
+  played-never-all-ones = omega (arith, plays .short, line-laid laid m few l)
+
+  pub the-printed : packPlayed (playLine laid m l) % 65536 ≡ length (playLine laid m l .printed)
+  unfolding packPlayed
+  the-printed = omega (arith, plays .short)
+
+  pub the-laid : packPlayed (playLine laid m l) / 65536 ≡ playLine laid m l .laid
+  unfolding packPlayed
+  the-laid = omega (arith, plays .short)

@@ -17,7 +17,7 @@ pub fn verdict_number(answer: Verdict) -> u8
     }
 }
 
-// The bytes that a board would hold, read as one number; compiled, no instruction.
+// The four bytes that a board would hold, read as one number.
 fn figure_bits(figure: i32) -> u32
     ensures { λ r. ⌜ r ≡ bits figure ⌝ }
 {
@@ -25,6 +25,7 @@ fn figure_bits(figure: i32) -> u32
     word_at(&bytes, 0)
 }
 
+// A step that tells a figure, with its island or flag.
 fn told_of(kind: u8, field: u8, figure: i32) -> u64
     ensures { λ r. ⌜ r ≡ packed 0 kind field (bits figure) ⌝ }
 {

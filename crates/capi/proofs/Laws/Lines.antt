@@ -152,7 +152,7 @@ board-small : (n K : ℕ) → n ≤ 16 → K ≤ 64 → boardLength n K ≤ 1690
 unfolding boardLength
 board-small n K h l = omega (arith, mul-le-mul h l)
 
-abbrev Small : model.Played → Type 0
+abbrev pub Small : model.Played → Type 0
 Small p = p .laid ≤ 4294967295
 
 module _ (laid : ℕ) (m : List ℕ) (h : laid ≤ 4294967295) where
@@ -189,7 +189,7 @@ module _ (laid : ℕ) (m : List ℕ) (h : laid ≤ 4294967295) where
   reading-laid (reads f) = form-laid f
   reading-laid (unread k) = h
 
-  line-laid : (l : List ℕ) → Small (playLine laid m l)
+  pub line-laid : (l : List ℕ) → Small (playLine laid m l)
   unfolding playLine
   line-laid l = reading-laid (readLine l)
 
