@@ -1,0 +1,106 @@
+//! The library's calls over lent bytes of any content and any length. A refused call alters no byte, because the
+//! bytes are written only once the values are known.
+
+use crate::bytes::{fields, length, values, Fields};
+use crate::model::{Answer, Station, World};
+use crate::refusal::Refusal;
+use crate::sound::sound;
+
+pub const MOST_STEPS: usize = 65_536;
+pub const LONGEST_SHOW: usize = 512;
+
+/// 8 and 9.
+fn counts(n: u8, k: u8) -> Result<(), Refusal> {
+    if !(1..=16).contains(&n) {
+        return Err(Refusal::StationCount);
+    }
+    if !(2..=64).contains(&k) {
+        return Err(Refusal::IslandCount);
+    }
+    Ok(())
+}
+
+/// 7 to 10, with n and K as given, or else from the head.
+fn measured(board: &[u8], given: Option<(u8, u8)>) -> Result<(), Refusal> {
+    if board.len() < 8 {
+        return Err(Refusal::BoardTooShort);
+    }
+    let (n, k) = given.unwrap_or((board[0], board[1]));
+    counts(n, k)?;
+    if board.len() != length(n, k) {
+        return Err(Refusal::BoardLength);
+    }
+    Ok(())
+}
+
+/// 7 to 11, and what the board means.
+fn opened(board: &[u8]) -> Result<World, Refusal> {
+    measured(board, None)?;
+    let raw = Fields::of_bytes(board);
+    if !sound(&raw) {
+        return Err(Refusal::NotSound);
+    }
+    Ok(values(&raw))
+}
+
+fn closed(board: &mut [u8], world: &World) {
+    board.copy_from_slice(&fields(world).to_bytes());
+}
+
+pub fn check(board: &[u8]) -> Result<(), Refusal> {
+    opened(board).map(|_| ())
+}
+
+pub fn lay(board: &mut [u8], n: u8, k: u8) -> Result<(), Refusal> {
+    measured(board, Some((n, k)))?;
+    closed(board, &World::fresh(n as usize, k as usize));
+    Ok(())
+}
+
+pub fn propose(board: &mut [u8], station: u8, figure: i32) -> Result<(), Refusal> {
+    let mut world = opened(board)?;
+    let who = world.place(station)?;
+    world.propose(who, figure as i64)?;
+    closed(board, &world);
+    Ok(())
+}
+
+pub fn step(board: &mut [u8], station: u8) -> Result<Answer, Refusal> {
+    let mut world = opened(board)?;
+    let who = world.place(station)?;
+    let answer = world.step(who)?;
+    closed(board, &world);
+    Ok(answer)
+}
+
+/// Steps taken, and steps refused and passed over. The board is opened once for the whole run.
+pub fn run(board: &mut [u8], stations: &[u8]) -> Result<(usize, usize), Refusal> {
+    if stations.len() > MOST_STEPS {
+        return Err(Refusal::TooManySteps);
+    }
+    let mut world = opened(board)?;
+    let taken = stations.iter().filter(|s| world.place(**s).and_then(|who| world.step(who)).is_ok()).count();
+    closed(board, &world);
+    Ok((taken, stations.len() - taken))
+}
+
+pub fn show(board: &[u8]) -> Result<String, Refusal> {
+    let world = opened(board)?;
+    let shown: Vec<String> = world.stations.iter().enumerate().map(|(who, s)| shown(who + 1, s)).collect();
+    let line = format!("(stations {})", shown.join(" "));
+    if line.len() > LONGEST_SHOW {
+        return Err(Refusal::ShowTooLong);
+    }
+    Ok(line)
+}
+
+fn shown(number: usize, station: &Station) -> String {
+    let (word, life) = match station {
+        Station::Idle => return format!("({number} idle)"),
+        Station::Decided(l) => ("decided", l),
+        Station::Spent(l) => ("spent", l),
+        Station::WriteM(l) | Station::WriteA(l) | Station::WriteB(l, _) => ("going", l),
+        Station::ReadM(l, _) | Station::ReadA(l, _) | Station::ReadB(l, _, _) => ("going", l),
+    };
+    format!("({number} {word} {} {})", life.island, life.carried)
+}

@@ -1,0 +1,13 @@
+//! The public document once more, in another language and in another shape.
+//!
+//! `model` has the two algorithms of the listing on values: a register is an `Option`, a collect is the list of what
+//! was read. `bytes` turns a board of bytes into fields and fields into values, and back. `sound` lists the clauses
+//! of soundness. `calls` are the library's calls, `sheet` the program's. The rest makes boards and sheets to compare.
+
+pub mod bytes;
+pub mod calls;
+pub mod model;
+pub mod random;
+pub mod refusal;
+pub mod sheet;
+pub mod sound;

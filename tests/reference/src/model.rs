@@ -1,0 +1,227 @@
+//! The adopt-commit-max algorithm and Archipelago, on values and one register at a time.
+//!
+//! Nothing here knows how a board is laid out in bytes. Line numbers are those of the listing in source 001.
+
+use crate::refusal::Refusal;
+
+/// Figures are kept in 64 bits, because a board may say that different figures were read of which the largest is the
+/// lowest figure there is. A list of readings that says so needs one lower still.
+pub type Figure = i64;
+
+#[derive(Clone, Copy, PartialEq, Eq, Debug)]
+pub enum Mark {
+    Written,
+    Adopt,
+    Commit,
+}
+
+#[derive(Clone, Copy, PartialEq, Eq, Debug)]
+pub struct Entry {
+    pub mark: Mark,
+    pub island: u8,
+    pub figure: Figure,
+}
+
+/// `None` is the listing's ⊥.
+pub type Register = Option<Entry>;
+
+/// A collect under way: the position to read next, and all that was read and was not ⊥.
+#[derive(Clone, PartialEq, Eq, Debug, Default)]
+pub struct Collect {
+    pub next: usize,
+    pub heard: Vec<Entry>,
+}
+
+/// What a station has with it in every phase after its proposal.
+#[derive(Clone, Copy, PartialEq, Eq, Debug)]
+pub struct Life {
+    pub proposal: Figure,
+    pub island: u8,
+    pub carried: Figure,
+}
+
+#[derive(Clone, PartialEq, Eq, Debug)]
+pub enum Station {
+    Idle,
+    WriteM(Life),
+    ReadM(Life, Collect),
+    WriteA(Life),
+    ReadA(Life, Collect),
+    WriteB(Life, Mark),
+    ReadB(Life, Mark, Collect),
+    Decided(Life),
+    Spent(Life),
+}
+
+/// "It answers with its kind and fields."
+#[derive(Clone, Copy, PartialEq, Eq, Debug)]
+pub enum Answer {
+    Wrote,
+    Read,
+    Went(u8, Figure),
+    Marked(Mark, Figure),
+    Adopted(u8, Figure),
+    Decided(u8, Figure),
+    Spent(u8, Figure),
+}
+
+/// The shared registers and the stations. `a` and `b` have a row of registers per island.
+#[derive(Clone, PartialEq, Eq, Debug)]
+pub struct World {
+    pub m: Vec<Register>,
+    pub a: Vec<Vec<Register>>,
+    pub b: Vec<Vec<Register>>,
+    pub stations: Vec<Station>,
+}
+
+impl Collect {
+    /// Reads one register; answers whether it was the last.
+    fn hear(&mut self, row: &[Register]) -> bool {
+        self.heard.extend(row[self.next]);
+        self.next += 1;
+        self.next == row.len()
+    }
+}
+
+/// Lines 19, 20 and 26: the largest pair. For figures alone every island is 0, so this is their maximum as well.
+pub fn largest(heard: &[Entry]) -> Option<Entry> {
+    heard.iter().copied().max_by_key(|e| (e.island, e.figure))
+}
+
+/// Line 7: what was read, without ⊥, is one figure.
+pub fn one_figure(heard: &[Entry]) -> bool {
+    let mut figures: Vec<Figure> = heard.iter().map(|e| e.figure).collect();
+    figures.sort_unstable();
+    figures.dedup();
+    figures.len() == 1
+}
+
+/// Lines 11 and 13: a commit among what was read. The first one stays, should there be several.
+pub fn first_commit(heard: &[Entry]) -> Option<Entry> {
+    heard.iter().copied().find(|e| e.mark == Mark::Commit)
+}
+
+/// Line 11: what was read, without ⊥, is this one commit.
+pub fn only_commit(heard: &[Entry], commit: Entry) -> bool {
+    heard.iter().all(|e| *e == commit)
+}
+
+/// Lines 7 to 9: the flag and figure to write to B.
+fn after_a(heard: &[Entry]) -> (Mark, Figure) {
+    let best = largest(heard).expect("a sound collect has its own register").figure;
+    (if one_figure(heard) { Mark::Commit } else { Mark::Adopt }, best)
+}
+
+/// Lines 11 to 14: what the object returns.
+fn after_b(heard: &[Entry]) -> (Mark, Figure) {
+    match first_commit(heard) {
+        Some(commit) if only_commit(heard, commit) => (Mark::Commit, commit.figure),
+        Some(commit) => (Mark::Adopt, commit.figure),
+        None => (Mark::Adopt, largest(heard).expect("a sound collect has its own register").figure),
+    }
+}
+
+impl World {
+    pub fn fresh(n: usize, k: usize) -> World {
+        World {
+            m: vec![None; n],
+            a: vec![vec![None; n]; k],
+            b: vec![vec![None; n]; k],
+            stations: vec![Station::Idle; n],
+        }
+    }
+
+    pub fn last_island(&self) -> u8 {
+        (self.a.len() - 1) as u8
+    }
+
+    /// Refusal 12: station numbers start at 1.
+    pub fn place(&self, station: u8) -> Result<usize, Refusal> {
+        let station = station as usize;
+        if station == 0 || station > self.stations.len() {
+            return Err(Refusal::NoSuchStation);
+        }
+        Ok(station - 1)
+    }
+
+    /// "A proposal sets an idle station to phase 1, c = 0, proposal and carried = the figure."
+    pub fn propose(&mut self, who: usize, figure: Figure) -> Result<(), Refusal> {
+        if self.stations[who] != Station::Idle {
+            return Err(Refusal::NotIdle);
+        }
+        self.stations[who] = Station::WriteM(Life { proposal: figure, island: 0, carried: figure });
+        Ok(())
+    }
+
+    /// One register write or one register read of one station.
+    pub fn step(&mut self, who: usize) -> Result<Answer, Refusal> {
+        match self.stations[who] {
+            Station::Idle => return Err(Refusal::Idle),
+            Station::Decided(_) => return Err(Refusal::Decided),
+            Station::Spent(_) => return Err(Refusal::Spent),
+            _ => {}
+        }
+        let before = std::mem::replace(&mut self.stations[who], Station::Idle);
+        let (after, answer) = self.moved(who, before);
+        self.stations[who] = after;
+        Ok(answer)
+    }
+
+    fn moved(&mut self, who: usize, before: Station) -> (Station, Answer) {
+        match before {
+            Station::WriteM(l) => {
+                self.m[who] = Some(Entry { mark: Mark::Written, island: l.island, figure: l.carried });
+                (Station::ReadM(l, Collect::default()), Answer::Wrote)
+            }
+            Station::WriteA(l) => {
+                let entry = Entry { mark: Mark::Written, island: 0, figure: l.carried };
+                self.a[l.island as usize][who] = Some(entry);
+                (Station::ReadA(l, Collect::default()), Answer::Wrote)
+            }
+            Station::WriteB(l, flag) => {
+                let entry = Entry { mark: flag, island: 0, figure: l.carried };
+                self.b[l.island as usize][who] = Some(entry);
+                (Station::ReadB(l, flag, Collect::default()), Answer::Wrote)
+            }
+            Station::ReadM(l, mut collect) => match collect.hear(&self.m) {
+                false => (Station::ReadM(l, collect), Answer::Read),
+                true => went(l, &collect.heard),
+            },
+            Station::ReadA(l, mut collect) => match collect.hear(&self.a[l.island as usize]) {
+                false => (Station::ReadA(l, collect), Answer::Read),
+                true => marked(l, &collect.heard),
+            },
+            Station::ReadB(l, flag, mut collect) => match collect.hear(&self.b[l.island as usize]) {
+                false => (Station::ReadB(l, flag, collect), Answer::Read),
+                true => returned(l, &collect.heard, self.last_island()),
+            },
+            done => unreachable!("{done:?} takes no step"),
+        }
+    }
+}
+
+/// Lines 26 and 27: on to the island that m gave, with the figure that m gave.
+fn went(life: Life, heard: &[Entry]) -> (Station, Answer) {
+    let best = largest(heard).expect("a sound collect has its own register");
+    let life = Life { island: best.island, carried: best.figure, ..life };
+    (Station::WriteA(life), Answer::Went(best.island, best.figure))
+}
+
+fn marked(life: Life, heard: &[Entry]) -> (Station, Answer) {
+    let (flag, figure) = after_a(heard);
+    (Station::WriteB(Life { carried: figure, ..life }, flag), Answer::Marked(flag, figure))
+}
+
+/// Lines 28 to 30, and the end of the islands, which the paper does not have.
+fn returned(life: Life, heard: &[Entry], last: u8) -> (Station, Answer) {
+    let (control, figure) = after_b(heard);
+    let life = Life { carried: figure, ..life };
+    let c = life.island;
+    if control == Mark::Commit {
+        return (Station::Decided(life), Answer::Decided(c, figure));
+    }
+    if c == last {
+        return (Station::Spent(life), Answer::Spent(c, figure));
+    }
+    (Station::WriteM(Life { island: c + 1, ..life }), Answer::Adopted(c + 1, figure))
+}

@@ -1,0 +1,72 @@
+//! A small deterministic generator (splitmix64): the same seed makes the same case on every machine.
+
+#[derive(Clone)]
+pub struct Random(u64);
+
+impl Random {
+    pub fn new(seed: u64) -> Random {
+        Random(seed)
+    }
+
+    pub fn word(&mut self) -> u64 {
+        self.0 = self.0.wrapping_add(0x9E37_79B9_7F4A_7C15);
+        let mut z = self.0;
+        z = (z ^ (z >> 30)).wrapping_mul(0xBF58_476D_1CE4_E5B9);
+        z = (z ^ (z >> 27)).wrapping_mul(0x94D0_49BB_1331_11EB);
+        z ^ (z >> 31)
+    }
+
+    /// A number from 0 to `count` − 1.
+    pub fn below(&mut self, count: usize) -> usize {
+        ((self.word() >> 32).wrapping_mul(count as u64) >> 32) as usize
+    }
+
+    /// A number from `low` to `high`, both included.
+    pub fn between(&mut self, low: usize, high: usize) -> usize {
+        low + self.below(high - low + 1)
+    }
+
+    pub fn byte(&mut self) -> u8 {
+        self.word() as u8
+    }
+
+    /// True once in `times`.
+    pub fn once_in(&mut self, times: usize) -> bool {
+        self.below(times) == 0
+    }
+
+    pub fn pick<T: Copy>(&mut self, from: &[T]) -> T {
+        from[self.below(from.len())]
+    }
+
+    /// Few distinct figures, so that stations meet the same ones, with both ends of the range among them.
+    pub fn figure(&mut self) -> i32 {
+        const ENDS: [i32; 8] = [i32::MIN, i32::MIN + 1, -256, -1, 0, 1, i32::MAX - 1, i32::MAX];
+        match self.below(4) {
+            0 => self.pick(&ENDS),
+            1 => self.word() as i32,
+            _ => self.below(5) as i32 - 2,
+        }
+    }
+
+    /// Mostly small boards, where stations meet; sometimes the largest.
+    pub fn size(&mut self) -> (u8, u8) {
+        let n = match self.below(8) {
+            0 => self.between(1, 16),
+            1 => self.pick(&[1, 15, 16]),
+            _ => self.between(2, 5),
+        };
+        let k = match self.below(8) {
+            0 => self.between(2, 64),
+            1 => self.pick(&[2, 63, 64]),
+            _ => self.between(2, 4),
+        };
+        (n as u8, k as u8)
+    }
+
+    pub fn shuffle<T>(&mut self, list: &mut [T]) {
+        for i in (1..list.len()).rev() {
+            list.swap(i, self.below(i + 1));
+        }
+    }
+}
