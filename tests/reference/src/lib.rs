@@ -6,8 +6,12 @@
 
 pub mod bytes;
 pub mod calls;
+pub mod edges;
 pub mod model;
+pub mod program;
 pub mod random;
 pub mod refusal;
 pub mod sheet;
+pub mod sheets;
+pub mod shorten;
 pub mod sound;

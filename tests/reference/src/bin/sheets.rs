@@ -1,0 +1,88 @@
+//! sheets PROGRAM COUNT SEED: plays made sheets through the program and compares all it prints with the reference.
+//! A count of 0 goes on for ever.
+
+use reference::sheet::{lines, play};
+use reference::{edges, program, sheets, shorten};
+
+struct Tally {
+    passed: u64,
+    failed: u64,
+    lines: u64,
+    refused: u64,
+    steps: u64,
+}
+
+impl Tally {
+    fn compare(&mut self, name: &str, program: &str, sheet: &[u8]) {
+        let expected = play(sheet);
+        self.count(&expected);
+        match program::difference(program, sheet, &expected) {
+            None => self.passed += 1,
+            Some(difference) => {
+                self.failed += 1;
+                println!("{name}: {difference}");
+                print_shortened(program, sheet);
+            }
+        }
+    }
+
+    fn count(&mut self, expected: &[u8]) {
+        for line in lines(expected) {
+            self.lines += 1;
+            self.refused += line.starts_with(b"(refused") as u64;
+            if let Some(rest) = line.strip_prefix(b"(ran ") {
+                let taken = rest.split(|b| *b == b' ').next().unwrap_or(b"0");
+                self.steps += String::from_utf8_lossy(taken).parse::<u64>().unwrap_or(0);
+            }
+        }
+    }
+
+    fn print(&self) {
+        println!(
+            "{} sheets, {} lines, {} of them refused, {} steps taken",
+            self.passed + self.failed, self.lines, self.refused, self.steps
+        );
+    }
+}
+
+/// Only sheets that fail with every line ended by LF can be shortened line by line.
+fn print_shortened(program: &str, sheet: &[u8]) {
+    let fails = |sheet: &[u8]| program::difference(program, sheet, &play(sheet)).is_some();
+    let all: Vec<Vec<u8>> = lines(sheet).iter().map(|l| l.to_vec()).collect();
+    if !fails(&shorten::joined(&all)) {
+        println!("  the sheet has {} bytes and fails only as a whole", sheet.len());
+        return;
+    }
+    for line in shorten::shorten(all, fails) {
+        println!("  {}", line.escape_ascii());
+    }
+}
+
+fn main() {
+    let arguments: Vec<String> = std::env::args().collect();
+    let [_, program, count, seed] = arguments.as_slice() else {
+        eprintln!("sheets PROGRAM COUNT SEED");
+        std::process::exit(2);
+    };
+    let (count, first): (u64, u64) = (count.parse().expect("a number"), seed.parse().expect("a number"));
+    let mut tally = Tally { passed: 0, failed: 0, lines: 0, refused: 0, steps: 0 };
+    for edge in edges::edges() {
+        tally.compare(edge.name, program, &edge.sheet);
+    }
+    println!("edges: {} passed, {} failed", tally.passed, tally.failed);
+    println!("seeds from {first}");
+    for at in 0.. {
+        if count != 0 && at == count {
+            break;
+        }
+        let seed = first.wrapping_add(at);
+        tally.compare(&format!("seed {seed}"), program, &sheets::sheet(seed));
+        if (at + 1) % 1000 == 0 {
+            print!("to seed {seed}: {} failed; ", tally.failed);
+            tally.print();
+        }
+    }
+    tally.print();
+    println!("{} passed, {} failed", tally.passed, tally.failed);
+    std::process::exit((tally.failed > 0) as i32);
+}

@@ -1,0 +1,62 @@
+//! The built program, run once per sheet.
+
+use std::io::{Read, Write};
+use std::process::{Command, Stdio};
+
+/// What the program did with a sheet.
+#[derive(Clone, PartialEq, Eq, Debug)]
+pub struct Ending {
+    pub printed: Vec<u8>,
+    pub complained: Vec<u8>,
+    pub well: bool,
+}
+
+/// The sheet is written from a thread, because the program may print before it has read everything.
+pub fn run(program: &str, sheet: &[u8]) -> std::io::Result<Ending> {
+    let mut child = Command::new(program)
+        .stdin(Stdio::piped())
+        .stdout(Stdio::piped())
+        .stderr(Stdio::piped())
+        .spawn()?;
+    let mut input = child.stdin.take().expect("piped");
+    let mut errors = child.stderr.take().expect("piped");
+    let sheet = sheet.to_vec();
+    // A program that stops reading early breaks the pipe; what it printed is judged all the same.
+    let writer = std::thread::spawn(move || drop(input.write_all(&sheet)));
+    let listener = std::thread::spawn(move || {
+        let mut complained = Vec::new();
+        drop(errors.read_to_end(&mut complained));
+        complained
+    });
+    let mut printed = Vec::new();
+    child.stdout.take().expect("piped").read_to_end(&mut printed)?;
+    let well = child.wait()?.success();
+    drop(writer.join());
+    let complained = listener.join().unwrap_or_default();
+    Ok(Ending { printed, complained, well })
+}
+
+/// What is asked of the program: the same output, nothing on standard error, a normal end.
+pub fn difference(program: &str, sheet: &[u8], expected: &[u8]) -> Option<String> {
+    let ending = match run(program, sheet) {
+        Ok(ending) => ending,
+        Err(error) => return Some(format!("the program did not run: {error}")),
+    };
+    if ending.printed != expected {
+        return Some(first_difference(&ending.printed, expected));
+    }
+    if !ending.complained.is_empty() {
+        return Some(format!("on standard error: {}", String::from_utf8_lossy(&ending.complained)));
+    }
+    (!ending.well).then(|| "the program did not end normally".to_string())
+}
+
+fn first_difference(printed: &[u8], expected: &[u8]) -> String {
+    let split = |text: &[u8]| -> Vec<String> {
+        text.split(|b| *b == b'\n').map(|l| String::from_utf8_lossy(l).into_owned()).collect()
+    };
+    let (got, want) = (split(printed), split(expected));
+    let at = got.iter().zip(&want).take_while(|(g, w)| g == w).count();
+    let line = |lines: &[String]| lines.get(at).cloned().unwrap_or_else(|| "no more lines".to_string());
+    format!("line {}: the program has {:?}, the reference {:?}", at + 1, line(&got), line(&want))
+}
