@@ -3,7 +3,7 @@
 //! Fields are what any bytes of the right length have, sound or not. Values are what a sound board means.
 
 use crate::model::{first_commit, largest, one_figure, only_commit};
-use crate::model::{Collect, Entry, Life, Mark, Register, Station, World};
+use crate::model::{Collect, Entry, Life, Mark, Register, Rows, Station, World};
 
 /// A register has 8 bytes: mark, island, two zeros, figure.
 #[derive(Clone, Copy, PartialEq, Eq, Debug, Default)]
@@ -30,15 +30,15 @@ pub struct Record {
     pub tail: [u8; 4],
 }
 
-/// The whole board. `a` and `b` have a row per island.
+/// The whole board.
 #[derive(Clone, PartialEq, Eq, Debug)]
 pub struct Fields {
     pub n: u8,
     pub k: u8,
     pub zeros: [u8; 6],
     pub m: Vec<Cell>,
-    pub a: Vec<Vec<Cell>>,
-    pub b: Vec<Vec<Cell>>,
+    pub a: Rows<Cell>,
+    pub b: Rows<Cell>,
     pub records: Vec<Record>,
 }
 
@@ -69,8 +69,8 @@ impl Front<'_> {
         Cell { mark: self.byte(), island: self.byte(), zeros: self.take(), figure: self.figure() }
     }
 
-    fn row(&mut self, n: u8) -> Vec<Cell> {
-        (0..n).map(|_| self.cell()).collect()
+    fn row(&mut self, into: &mut [Cell]) {
+        into.iter_mut().for_each(|c| *c = self.cell());
     }
 
     fn record(&mut self) -> Record {
@@ -95,11 +95,13 @@ impl Fields {
     pub fn of_bytes(board: &[u8]) -> Fields {
         let mut front = Front(board);
         let (n, k, zeros) = (front.byte(), front.byte(), front.take());
-        let m = front.row(n);
-        let (mut a, mut b) = (Vec::with_capacity(k as usize), Vec::with_capacity(k as usize));
-        for _ in 0..k {
-            a.push(front.row(n));
-            b.push(front.row(n));
+        let mut m = vec![Cell::default(); n as usize];
+        front.row(&mut m);
+        let mut a = Rows::filled(n as usize, k as usize, Cell::default());
+        let mut b = a.clone();
+        for island in 0..k {
+            front.row(a.row_mut(island));
+            front.row(b.row_mut(island));
         }
         let records = (0..n).map(|_| front.record()).collect();
         assert!(front.0.is_empty());
@@ -111,8 +113,9 @@ impl Fields {
         out.extend([self.n, self.k]);
         out.extend(self.zeros);
         self.m.iter().for_each(|c| put_cell(&mut out, c));
-        for (a, b) in self.a.iter().zip(&self.b) {
-            a.iter().chain(b).for_each(|c| put_cell(&mut out, c));
+        for island in 0..self.k {
+            self.a.row(island).iter().for_each(|c| put_cell(&mut out, c));
+            self.b.row(island).iter().for_each(|c| put_cell(&mut out, c));
         }
         self.records.iter().for_each(|r| put_record(&mut out, r));
         out
@@ -238,25 +241,25 @@ fn reading(r: Record, array: Array, c: &Collect) -> Record {
 
 /// The values that a sound board means.
 pub fn values(f: &Fields) -> World {
-    let row = |array, cells: &Vec<Cell>| cells.iter().map(|c| register(array, c)).collect();
+    let list = |array, cells: &[Cell]| cells.iter().map(|c| register(array, c)).collect();
     World {
-        m: row(Array::M, &f.m),
-        a: f.a.iter().map(|cells| row(Array::A, cells)).collect(),
-        b: f.b.iter().map(|cells| row(Array::B, cells)).collect(),
+        m: list(Array::M, &f.m),
+        a: Rows { width: f.a.width, all: list(Array::A, &f.a.all) },
+        b: Rows { width: f.b.width, all: list(Array::B, &f.b.all) },
         stations: f.records.iter().map(station).collect(),
     }
 }
 
 /// The only sound board that means these values.
 pub fn fields(w: &World) -> Fields {
-    let row = |registers: &Vec<Register>| registers.iter().map(cell).collect();
+    let list = |registers: &[Register]| registers.iter().map(cell).collect();
     Fields {
         n: w.m.len() as u8,
-        k: w.a.len() as u8,
+        k: w.a.count() as u8,
         zeros: [0; 6],
-        m: row(&w.m),
-        a: w.a.iter().map(row).collect(),
-        b: w.b.iter().map(row).collect(),
+        m: list(&w.m),
+        a: Rows { width: w.a.width, all: list(&w.a.all) },
+        b: Rows { width: w.b.width, all: list(&w.b.all) },
         records: w.stations.iter().map(record).collect(),
     }
 }

@@ -7,6 +7,7 @@
 pub mod bytes;
 pub mod calls;
 pub mod edges;
+pub mod lists;
 pub mod model;
 pub mod program;
 pub mod random;

@@ -65,12 +65,37 @@ pub enum Answer {
     Spent(u8, Figure),
 }
 
-/// The shared registers and the stations. `a` and `b` have a row of registers per island.
+/// A row per island, a place per station. One list behind it, because boards are taken apart for every call.
+#[derive(Clone, PartialEq, Eq, Debug)]
+pub struct Rows<T> {
+    pub width: usize,
+    pub all: Vec<T>,
+}
+
+impl<T: Clone> Rows<T> {
+    pub fn filled(width: usize, rows: usize, with: T) -> Rows<T> {
+        Rows { width, all: vec![with; width * rows] }
+    }
+
+    pub fn count(&self) -> usize {
+        self.all.len() / self.width
+    }
+
+    pub fn row(&self, at: u8) -> &[T] {
+        &self.all[at as usize * self.width..][..self.width]
+    }
+
+    pub fn row_mut(&mut self, at: u8) -> &mut [T] {
+        &mut self.all[at as usize * self.width..][..self.width]
+    }
+}
+
+/// The shared registers and the stations.
 #[derive(Clone, PartialEq, Eq, Debug)]
 pub struct World {
     pub m: Vec<Register>,
-    pub a: Vec<Vec<Register>>,
-    pub b: Vec<Vec<Register>>,
+    pub a: Rows<Register>,
+    pub b: Rows<Register>,
     pub stations: Vec<Station>,
 }
 
@@ -90,10 +115,7 @@ pub fn largest(heard: &[Entry]) -> Option<Entry> {
 
 /// Line 7: what was read, without ⊥, is one figure.
 pub fn one_figure(heard: &[Entry]) -> bool {
-    let mut figures: Vec<Figure> = heard.iter().map(|e| e.figure).collect();
-    figures.sort_unstable();
-    figures.dedup();
-    figures.len() == 1
+    heard.first().is_some_and(|one| heard.iter().all(|e| e.figure == one.figure))
 }
 
 /// Lines 11 and 13: a commit among what was read. The first one stays, should there be several.
@@ -125,14 +147,14 @@ impl World {
     pub fn fresh(n: usize, k: usize) -> World {
         World {
             m: vec![None; n],
-            a: vec![vec![None; n]; k],
-            b: vec![vec![None; n]; k],
+            a: Rows::filled(n, k, None),
+            b: Rows::filled(n, k, None),
             stations: vec![Station::Idle; n],
         }
     }
 
     pub fn last_island(&self) -> u8 {
-        (self.a.len() - 1) as u8
+        (self.a.count() - 1) as u8
     }
 
     /// Refusal 12: station numbers start at 1.
@@ -175,23 +197,23 @@ impl World {
             }
             Station::WriteA(l) => {
                 let entry = Entry { mark: Mark::Written, island: 0, figure: l.carried };
-                self.a[l.island as usize][who] = Some(entry);
+                self.a.row_mut(l.island)[who] = Some(entry);
                 (Station::ReadA(l, Collect::default()), Answer::Wrote)
             }
             Station::WriteB(l, flag) => {
                 let entry = Entry { mark: flag, island: 0, figure: l.carried };
-                self.b[l.island as usize][who] = Some(entry);
+                self.b.row_mut(l.island)[who] = Some(entry);
                 (Station::ReadB(l, flag, Collect::default()), Answer::Wrote)
             }
             Station::ReadM(l, mut collect) => match collect.hear(&self.m) {
                 false => (Station::ReadM(l, collect), Answer::Read),
                 true => went(l, &collect.heard),
             },
-            Station::ReadA(l, mut collect) => match collect.hear(&self.a[l.island as usize]) {
+            Station::ReadA(l, mut collect) => match collect.hear(self.a.row(l.island)) {
                 false => (Station::ReadA(l, collect), Answer::Read),
                 true => marked(l, &collect.heard),
             },
-            Station::ReadB(l, flag, mut collect) => match collect.hear(&self.b[l.island as usize]) {
+            Station::ReadB(l, flag, mut collect) => match collect.hear(self.b.row(l.island)) {
                 false => (Station::ReadB(l, flag, collect), Answer::Read),
                 true => returned(l, &collect.heard, self.last_island()),
             },

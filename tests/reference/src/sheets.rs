@@ -3,11 +3,11 @@
 use crate::random::Random;
 use crate::sheet::{LONGEST_LINE, LONGEST_SHEET};
 
-/// What the generator keeps in mind between lines: the board that it last laid, and who is still to propose.
+/// What the generator keeps in mind between lines: the board that it last laid, and lines to come soon, last first.
 struct Laid {
     n: usize,
     lines_left: usize,
-    silent: Vec<usize>,
+    soon: Vec<String>,
 }
 
 /// A sheet with its lines as they were made; the last byte may lack its LF.
@@ -21,7 +21,7 @@ pub fn sheet(seed: u64) -> Vec<u8> {
     let spoil = r.pick(&[0, 0, 0, 4, 12, 40]);
     let heavy = r.once_in(6);
     let mut out = Vec::new();
-    let mut laid = Laid { n: 2, lines_left: 0, silent: vec![] };
+    let mut laid = Laid { n: 2, lines_left: 0, soon: vec![] };
     for at in 0..lines {
         let mut line = if at == 0 && !r.once_in(20) { board(&mut r, &mut laid) } else { form(&mut r, &mut laid, heavy) };
         if spoil > 0 && r.once_in(spoil) {
@@ -45,8 +45,8 @@ fn form(r: &mut Random, laid: &mut Laid, heavy: bool) -> Vec<u8> {
     }
     laid.lines_left -= 1;
     if r.below(4) > 0 {
-        if let Some(i) = laid.silent.pop() {
-            return format!("(propose {i} {})", r.figure()).into_bytes();
+        if let Some(line) = laid.soon.pop() {
+            return line.into_bytes();
         }
     }
     match r.below(10) {
@@ -59,10 +59,31 @@ fn form(r: &mut Random, laid: &mut Laid, heavy: bool) -> Vec<u8> {
 
 fn board(r: &mut Random, laid: &mut Laid) -> Vec<u8> {
     let (n, k) = r.size();
-    let mut silent: Vec<usize> = (1..=n as usize).collect();
-    r.shuffle(&mut silent);
-    *laid = Laid { n: n as usize, lines_left: r.between(1, 90), silent };
+    let soon = if n > 1 && r.once_in(4) { circling(r, n as usize) } else { proposals(r, n as usize) };
+    *laid = Laid { n: n as usize, lines_left: r.between(1, 90), soon };
     format!("(board {n} {k})").into_bytes()
+}
+
+/// Every station's proposal, in any order.
+fn proposals(r: &mut Random, n: usize) -> Vec<String> {
+    let mut lines: Vec<String> = (1..=n).map(|i| format!("(propose {i} {})", r.figure())).collect();
+    r.shuffle(&mut lines);
+    lines
+}
+
+/// Two stations that circle: many end spent.
+fn circling(r: &mut Random, n: usize) -> Vec<String> {
+    let high = r.between(1, n);
+    let low = neighbour(high, n);
+    let figure = r.figure().saturating_add(1);
+    let first = format!("(propose {high} {figure})");
+    let second = format!("(propose {low} {})", figure - 1);
+    let steps = format!("(steps {})", circle(n, high, r.between(1, 3)));
+    vec!["(show)".to_string(), steps, second, first]
+}
+
+fn neighbour(i: usize, n: usize) -> usize {
+    i % n + 1
 }
 
 /// Numbers at the ends of every range, so that most of these are refused between accepted ones.
@@ -106,6 +127,10 @@ fn steps(r: &mut Random, n: usize, heavy: bool) -> Vec<u8> {
 }
 
 fn item(r: &mut Random, n: usize, most: usize, depth: usize) -> String {
+    if most > n && depth < 7 && r.once_in(4) {
+        let high = r.between(1, n);
+        return if n > 1 && r.once_in(6) { circle(n, high, r.between(1, 4)) } else { rounds(r, n) };
+    }
     if depth >= 8 || most < 2 || r.below(5) > 1 {
         return station(r, n).to_string();
     }
@@ -114,6 +139,20 @@ fn item(r: &mut Random, n: usize, most: usize, depth: usize) -> String {
     let each = (most / count / inner).max(1);
     let items: Vec<String> = (0..inner).map(|_| item(r, n, each, depth + 1)).collect();
     format!("(times {count} {})", items.join(" "))
+}
+
+/// Whole rounds of one station, a write and a collect each: stations that take turns by rounds meet most often.
+fn rounds(r: &mut Random, n: usize) -> String {
+    let count = (n + 1) * r.pick(&[1, 1, 2, 3]);
+    format!("(times {count} {})", r.between(1, n))
+}
+
+/// The document's second run on any board: two stations that meet on one island after the other.
+fn circle(n: usize, high: usize, islands: usize) -> String {
+    let low = neighbour(high, n);
+    let (one, two) = (n + 1, 2 * n + 2);
+    let start = format!("(times {one} {low}) (times {one} {high}) (times {one} {low})");
+    format!("(times {islands} {start} (times {two} {high}) (times {one} {low}))")
 }
 
 /// Changes a line in one of the ways that the document turns down; some changes leave a form, which is as good.

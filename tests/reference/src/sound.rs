@@ -29,7 +29,7 @@ pub fn broken(f: &Fields) -> Vec<&'static str> {
 }
 
 fn every_register(f: &Fields, holds: impl Fn(&Cell) -> bool) -> bool {
-    f.m.iter().chain(f.a.iter().flatten()).chain(f.b.iter().flatten()).all(holds)
+    f.m.iter().chain(&f.a.all).chain(&f.b.all).all(holds)
 }
 
 fn every_record(f: &Fields, holds: impl Fn(&Record) -> bool) -> bool {
@@ -57,7 +57,7 @@ fn empty_registers(f: &Fields) -> bool {
 
 /// "Marks: m and A 1 written; B 1 adopt, 2 commit."
 fn marks(f: &Fields) -> bool {
-    f.m.iter().chain(f.a.iter().flatten()).all(|c| c.mark <= 1) && f.b.iter().flatten().all(|c| c.mark <= 2)
+    f.m.iter().chain(&f.a.all).all(|c| c.mark <= 1) && f.b.all.iter().all(|c| c.mark <= 2)
 }
 
 /// "The island byte is below K in m .."
@@ -67,7 +67,7 @@ fn islands_in_m(f: &Fields) -> bool {
 
 /// ".. and zero in A and B."
 fn no_islands_in_a_and_b(f: &Fields) -> bool {
-    f.a.iter().chain(&f.b).flatten().all(|c| c.island == 0)
+    f.a.all.iter().chain(&f.b.all).all(|c| c.island == 0)
 }
 
 /// "byte 0 phase (0 idle, 1 write m, .. 8 spent)"
@@ -140,11 +140,11 @@ fn nothing_seen(f: &Fields) -> bool {
 fn own_registers(f: &Fields) -> bool {
     f.records.iter().enumerate().all(|(who, r)| {
         let cell = |mark, island| Cell { mark, island, zeros: [0; 2], figure: r.carried };
-        let row = r.island as usize;
+        let there = r.island < f.k;
         match r.phase {
             2 => f.m[who] == cell(1, r.island),
-            4 => row < f.a.len() && f.a[row][who] == cell(1, 0),
-            6 => row < f.b.len() && f.b[row][who] == cell(r.flag, 0),
+            4 => there && f.a.row(r.island)[who] == cell(1, 0),
+            6 => there && f.b.row(r.island)[who] == cell(r.flag, 0),
             _ => true,
         }
     })

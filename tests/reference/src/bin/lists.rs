@@ -1,0 +1,191 @@
+//! lists PROGRAM COUNT SEED: demand 3 on made lists, by the calls of this package and by what the program prints.
+//! With `-` for the program only the calls of this package are asked. A count of 0 goes on for ever.
+
+use reference::lists::{judge, make, order_for, play, sequential, Call, Deeds, List};
+use reference::program;
+use reference::random::Random;
+
+#[derive(Default)]
+struct Tally {
+    passed: u64,
+    failed: u64,
+    decided: u64,
+    undecided: u64,
+    spent_beside: u64,
+    calls: u64,
+}
+
+impl Tally {
+    fn take(&mut self, name: &str, deeds: &[Deeds], verdict: Result<Option<i32>, String>) {
+        match verdict {
+            Ok(None) => self.undecided += 1,
+            Ok(Some(_)) => {
+                self.decided += 1;
+                self.spent_beside += deeds.iter().any(|d| d.spent) as u64;
+            }
+            Err(why) => {
+                self.failed += 1;
+                println!("{name}: {why}");
+                return;
+            }
+        }
+        self.passed += 1;
+    }
+
+    fn print(&self, whose: &str) {
+        println!(
+            "{whose}: {} calls, {} lists with a decision, {} of them beside a spent station, {} without; {} failed",
+            self.calls, self.decided, self.spent_beside, self.undecided, self.failed
+        );
+    }
+}
+
+/// A list as lines, each of which has the steps of one station only, so that S tells whether that station stepped.
+fn lines(list: &List) -> Vec<(String, Call)> {
+    let mut out = vec![(format!("(board {} {})", list.n, list.k), Call::Lay(list.n, list.k))];
+    for group in list.calls.chunk_by(|a, b| a == b && matches!(a, Call::Step(_))) {
+        let text = match group[0] {
+            Call::Lay(n, k) => format!("(board {n} {k})"),
+            Call::Propose(i, v) => format!("(propose {i} {v})"),
+            // 255 is no number of a sheet; 99 is refused alike.
+            Call::Step(i) => format!("(steps (times {} {}))", group.len(), i.min(99)),
+        };
+        out.push((text, group[0]));
+    }
+    out.push(("(show)".to_string(), Call::Lay(0, 0)));
+    out
+}
+
+/// What the program's answers to those lines say of the stations.
+fn deeds_of(list: &List, lines: &[(String, Call)], printed: &[&str]) -> Option<Vec<Deeds>> {
+    let mut deeds = vec![Deeds::default(); list.n as usize];
+    for ((_, call), answer) in lines.iter().zip(printed) {
+        match *call {
+            Call::Propose(i, v) if answer.starts_with("(proposed ") => deeds.get_mut(i as usize - 1)?.proposed = Some(v),
+            Call::Step(i) if answer.starts_with("(ran ") && !answer.starts_with("(ran 0 ") => {
+                deeds.get_mut(i as usize - 1)?.stepped = true
+            }
+            _ => {}
+        }
+    }
+    let shown = decided_of(printed.last()?)?;
+    for (d, (decided, spent)) in deeds.iter_mut().zip(shown) {
+        d.decided = decided;
+        d.spent = spent;
+    }
+    Some(deeds)
+}
+
+/// Per station of a shown line: the figure it decided, and whether it is spent.
+fn decided_of(line: &str) -> Option<Vec<(Option<i32>, bool)>> {
+    let inside = line.strip_prefix("(stations (")?.strip_suffix("))")?;
+    let one = |part: &str| {
+        let words: Vec<&str> = part.split(' ').collect();
+        match words.as_slice() {
+            [_, "decided", _, v] => Some((Some(v.parse().ok()?), false)),
+            [_, "spent", _, _] => Some((None, true)),
+            [_, "going", _, _] | [_, "idle"] => Some((None, false)),
+            _ => None,
+        }
+    };
+    inside.split(") (").map(one).collect()
+}
+
+/// A sequential run played by the program.
+fn sequential_by(program: &str, n: u8, k: u8, order: &[(u8, i32)]) -> Vec<Option<i32>> {
+    let turn = |(i, v): &(u8, i32)| format!("(propose {i} {v})\n(steps (times {} {i}))\n", 3 * (n as usize + 1) * k as usize);
+    let sheet = format!("(board {n} {k})\n{}(show)\n", order.iter().map(turn).collect::<String>());
+    let printed = program::run(program, sheet.as_bytes()).map(|e| e.printed).unwrap_or_default();
+    let text = String::from_utf8_lossy(&printed).into_owned();
+    let shown = text.lines().last().and_then(decided_of).unwrap_or_default();
+    order.iter().map(|(i, _)| shown.get(*i as usize - 1).and_then(|s| s.0)).collect()
+}
+
+/// Several lists in one sheet, then each list's order.
+fn by_program(tally: &mut Tally, program: &str, lists: &[(u64, List)]) {
+    let parts: Vec<Vec<(String, Call)>> = lists.iter().map(|(_, list)| lines(list)).collect();
+    let sheet: String = parts.iter().flatten().map(|(text, _)| format!("{text}\n")).collect();
+    let printed = program::run(program, sheet.as_bytes()).map(|e| e.printed).unwrap_or_default();
+    let text = String::from_utf8_lossy(&printed).into_owned();
+    let mut left: &[&str] = &text.lines().collect::<Vec<_>>();
+    for ((seed, list), part) in lists.iter().zip(&parts) {
+        let (mine, rest) = left.split_at(part.len().min(left.len()));
+        left = rest;
+        let name = format!("program, seed {seed}");
+        tally.calls += list.calls.len() as u64;
+        let Some(deeds) = deeds_of(list, part, mine) else {
+            tally.take(&name, &[], Err("its answers cannot be read".to_string()));
+            continue;
+        };
+        let run = |n: u8, k: u8, order: &[(u8, i32)]| sequential_by(program, n, k, order);
+        let verdict = judge(list.n, list.k, &deeds, &mut Random::new(*seed), &run);
+        tally.take(&name, &deeds, verdict);
+    }
+}
+
+fn by_calls(tally: &mut Tally, seed: u64, list: &List) {
+    tally.calls += list.calls.len() as u64;
+    let deeds = play(list);
+    let verdict = judge(list.n, list.k, &deeds, &mut Random::new(seed), &sequential);
+    tally.take(&format!("calls, seed {seed}"), &deeds, verdict);
+}
+
+/// In every sequential run from a fresh board each station decides the first one's figure, decision or none.
+fn any_order(tally: &mut Tally, seed: u64) {
+    let mut r = Random::new(seed ^ 0x5EED);
+    let (n, k) = r.size();
+    let mut deeds = vec![Deeds::default(); n as usize];
+    for d in deeds.iter_mut() {
+        *d = Deeds { proposed: Some(r.figure()), stepped: !r.once_in(4), ..*d };
+    }
+    let Some(first) = deeds.iter().find(|d| d.stepped).and_then(|d| d.proposed) else { return };
+    let order = order_for(&deeds, first, &mut r).expect("a station that stepped proposed it");
+    let good = sequential(n, k, &order).iter().all(|d| *d == Some(first));
+    let verdict = if good { Ok(Some(first)) } else { Err(format!("{order:?} does not decide {first}")) };
+    tally.take(&format!("sequential, seed {seed}"), &deeds, verdict);
+}
+
+fn main() {
+    let arguments: Vec<String> = std::env::args().collect();
+    let [_, program, count, seed] = arguments.as_slice() else {
+        eprintln!("lists PROGRAM COUNT SEED, or - for PROGRAM");
+        std::process::exit(2);
+    };
+    let (count, first): (u64, u64) = (count.parse().expect("a number"), seed.parse().expect("a number"));
+    println!("seeds from {first}");
+    let (mut calls, mut sheets, mut orders) = (Tally::default(), Tally::default(), Tally::default());
+    let mut waiting: Vec<(u64, List)> = Vec::new();
+    let mut size = 0;
+    for at in 0.. {
+        if count != 0 && at == count {
+            break;
+        }
+        let seed = first.wrapping_add(at);
+        let list = make(seed);
+        by_calls(&mut calls, seed, &list);
+        any_order(&mut orders, seed);
+        if program != "-" {
+            let bytes: usize = lines(&list).iter().map(|(text, _)| text.len() + 1).sum();
+            if size + bytes > reference::sheet::LONGEST_SHEET {
+                by_program(&mut sheets, program, &waiting);
+                waiting.clear();
+                size = 0;
+            }
+            size += bytes;
+            waiting.push((seed, list));
+        }
+        if (at + 1) % 1000 == 0 && count == 0 {
+            println!("to seed {seed}: {} failed", calls.failed + sheets.failed + orders.failed);
+        }
+    }
+    if program != "-" {
+        by_program(&mut sheets, program, &waiting);
+        sheets.print("the program's sheets");
+    }
+    calls.print("single calls");
+    orders.print("sequential runs");
+    let passed = calls.passed + sheets.passed + orders.passed;
+    let failed = calls.failed + sheets.failed + orders.failed;
+    println!("{passed} passed, {failed} failed");
+    std::process::exit((failed > 0) as i32);
+}
