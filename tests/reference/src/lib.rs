@@ -4,9 +4,12 @@
 //! was read. `bytes` turns a board of bytes into fields and fields into values, and back. `sound` lists the clauses
 //! of soundness. `calls` are the library's calls, `sheet` the program's. The rest makes boards and sheets to compare.
 
+pub mod boards;
 pub mod bytes;
 pub mod calls;
+pub mod compare;
 pub mod edges;
+pub mod engine;
 pub mod lists;
 pub mod model;
 pub mod program;

@@ -1,0 +1,41 @@
+//! boards COUNT SEED: every call of the linked engine beside the reference, on made boards. A count of 0 goes on for
+//! ever, with a line per thousand rounds.
+
+use reference::compare::Compare;
+use reference::engine::Linked;
+
+fn print(compare: &Compare) {
+    let c = &compare.counts;
+    println!("{} calls, {} lines, {} words compared", c.calls, c.lines, c.words);
+    println!("steps compared: {} single, {} in runs", c.single_steps, c.run_steps);
+    let by: Vec<String> = (7..18).map(|r| format!("{r}: {}", c.refusals[r])).collect();
+    println!("accepted {}; refused 6: {}, {}", c.refusals[0], c.refusals[6], by.join(", "));
+}
+
+fn main() {
+    let arguments: Vec<String> = std::env::args().collect();
+    let [_, count, seed] = arguments.as_slice() else {
+        eprintln!("boards COUNT SEED");
+        std::process::exit(2);
+    };
+    let (count, first): (u64, u64) = (count.parse().expect("a number"), seed.parse().expect("a number"));
+    println!("seeds from {first}");
+    let mut compare = Compare::new(&Linked);
+    let mut told = 0;
+    for at in 0.. {
+        if count != 0 && at == count {
+            break;
+        }
+        compare.round(first.wrapping_add(at));
+        for line in &compare.told[told..] {
+            println!("{line}");
+        }
+        told = compare.told.len();
+        if count == 0 && (at + 1) % 1000 == 0 {
+            println!("to seed {}: {} failed", first.wrapping_add(at), compare.failed);
+        }
+    }
+    print(&compare);
+    println!("{} passed, {} failed", compare.passed, compare.failed);
+    std::process::exit((compare.failed > 0) as i32);
+}

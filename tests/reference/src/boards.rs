@@ -1,0 +1,162 @@
+//! Boards made at random: sound ones that no run need reach, damaged ones, hostile ones.
+
+use crate::bytes::{length, Cell, Fields, Record};
+use crate::model::Rows;
+use crate::random::Random;
+
+/// A board whose every field is drawn within the clauses of soundness, and nothing more.
+pub fn sound(r: &mut Random, n: u8, k: u8) -> Vec<u8> {
+    let width = n as usize;
+    let mut f = Fields {
+        n,
+        k,
+        zeros: [0; 6],
+        m: vec![Cell::default(); width],
+        a: Rows::filled(width, k as usize, Cell::default()),
+        b: Rows::filled(width, k as usize, Cell::default()),
+        records: vec![Record::default(); width],
+    };
+    f.m.iter_mut().for_each(|c| *c = cell(r, 1, k));
+    f.a.all.iter_mut().for_each(|c| *c = cell(r, 1, 1));
+    f.b.all.iter_mut().for_each(|c| *c = cell(r, 2, 1));
+    for who in 0..width {
+        f.records[who] = record(r, who, n, k);
+        own(&mut f, who);
+    }
+    f.to_bytes()
+}
+
+fn cell(r: &mut Random, marks: u8, islands: u8) -> Cell {
+    if r.once_in(3) {
+        return Cell::default();
+    }
+    let mark = r.between(1, marks as usize) as u8;
+    Cell { mark, island: r.below(islands as usize) as u8, zeros: [0; 2], figure: r.figure() }
+}
+
+fn record(r: &mut Random, who: usize, n: u8, k: u8) -> Record {
+    let phase = r.below(9) as u8;
+    if phase == 0 {
+        return Record::default();
+    }
+    let island = if r.once_in(3) { k - 1 } else { r.below(k as usize) as u8 };
+    let flag = if matches!(phase, 5 | 6) { r.between(1, 2) as u8 } else { 0 };
+    let plain = Record { phase, island, flag, proposal: r.figure(), carried: r.figure(), ..Record::default() };
+    if !matches!(phase, 2 | 4 | 6) {
+        return plain;
+    }
+    let last = n - 1;
+    let next = if r.once_in(2) { last } else { r.below(n as usize) as u8 };
+    let passed = next as usize > who;
+    let most = phase as usize / 2;
+    let seen = r.between(passed as usize, most) as u8;
+    if seen == 0 {
+        return Record { next, ..plain };
+    }
+    let mut best_island = if phase == 2 { r.below(k as usize) as u8 } else { 0 };
+    let mut best = r.figure();
+    if passed && phase == 2 && (best_island, best) < (island, plain.carried) {
+        (best_island, best) = (island, plain.carried);
+    }
+    if passed && phase == 4 {
+        best = best.max(plain.carried);
+    }
+    Record { next, seen, best_island, best, ..plain }
+}
+
+/// The own register holds what the record says the station wrote.
+fn own(f: &mut Fields, who: usize) {
+    let r = f.records[who];
+    let cell = |mark, island| Cell { mark, island, zeros: [0; 2], figure: r.carried };
+    match r.phase {
+        2 => f.m[who] = cell(1, r.island),
+        4 => f.a.row_mut(r.island)[who] = cell(1, 0),
+        6 => f.b.row_mut(r.island)[who] = cell(r.flag, 0),
+        _ => {}
+    }
+}
+
+/// One byte changed: to a near value as often as to any.
+pub fn damaged(r: &mut Random, mut board: Vec<u8>) -> Vec<u8> {
+    if board.is_empty() {
+        return board;
+    }
+    let records = board.len() - 24 * board[0].clamp(1, 16) as usize;
+    let at = match r.below(3) {
+        0 => r.between(records.min(board.len() - 1), board.len() - 1),
+        1 => r.below(board.len().min(8)),
+        _ => r.below(board.len()),
+    };
+    board[at] = match r.below(4) {
+        0 => board[at].wrapping_add(1),
+        1 => board[at].wrapping_sub(1),
+        2 => board[at] ^ (1 << r.below(8)),
+        _ => r.byte(),
+    };
+    board
+}
+
+/// A board that is longer or shorter than its head asks for.
+pub fn resized(r: &mut Random, mut board: Vec<u8>) -> Vec<u8> {
+    let size = match r.below(4) {
+        0 => r.below(16),
+        1 => board.len() + 1,
+        2 => board.len() - 1,
+        _ => r.below(board.len() + 40),
+    };
+    board.resize(size, 0);
+    board
+}
+
+/// Any bytes: of any length, or of the length that the head asks for.
+pub fn hostile(r: &mut Random) -> Vec<u8> {
+    if r.once_in(2) {
+        let size = r.below(400);
+        return (0..size).map(|_| r.byte()).collect();
+    }
+    let (n, k) = (r.between(1, 4) as u8, r.between(2, 4) as u8);
+    let few = r.once_in(2);
+    let mut board: Vec<u8> = (0..length(n, k)).map(|_| if few { r.below(3) as u8 } else { r.byte() }).collect();
+    (board[0], board[1]) = (n, k);
+    if r.once_in(2) {
+        board[2..8].fill(0);
+    }
+    board
+}
+
+#[cfg(test)]
+mod tests {
+    use super::*;
+    use crate::bytes::{fields, values};
+    use crate::sound::broken;
+
+    /// The values of a sound board are turned back into exactly its bytes.
+    #[test]
+    fn made_boards_are_sound_and_come_back() {
+        let mut r = Random::new(11);
+        for _ in 0..4000 {
+            let (n, k) = (r.between(1, 6) as u8, r.between(2, 5) as u8);
+            let board = sound(&mut r, n, k);
+            let raw = Fields::of_bytes(&board);
+            assert_eq!(broken(&raw), Vec::<&str>::new());
+            assert_eq!(fields(&values(&raw)).to_bytes(), board);
+        }
+    }
+
+    /// Every clause is broken by some board that differs from a sound one in a byte.
+    #[test]
+    fn every_clause_is_met() {
+        let mut r = Random::new(12);
+        let mut met = std::collections::BTreeSet::new();
+        for _ in 0..40_000 {
+            let (n, k) = (r.between(1, 4) as u8, r.between(2, 3) as u8);
+            let board = sound(&mut r, n, k);
+            let board = damaged(&mut r, board);
+            if (board[0], board[1]) == (n, k) {
+                met.extend(broken(&Fields::of_bytes(&board)));
+            }
+        }
+        let all: std::collections::BTreeSet<&str> = crate::sound::CLAUSES.iter().map(|c| c.name).collect();
+        assert_eq!(met, all);
+    }
+}

@@ -1,0 +1,172 @@
+//! What is compared: the calls as the C interface packs them. `Reference` answers from this package; `Linked`, with
+//! the feature `engine`, from the proved library. The bits that a call does not use are zero.
+
+use crate::bytes::mark_byte;
+use crate::calls;
+use crate::model::Answer;
+use crate::refusal::Refusal;
+use crate::sheet;
+
+pub const SHOWN: usize = calls::LONGEST_SHOW;
+
+/// Room for the longest line that is printed, with its LF.
+pub const PRINTED: usize = 1024;
+
+pub trait Engine {
+    /// 0 or the refusal's number.
+    fn lay(&self, board: &mut [u8], n: u8, k: u8) -> u8;
+    fn propose(&self, board: &mut [u8], station: u8, figure: i32) -> u8;
+    fn check(&self, board: &[u8]) -> u8;
+    /// Bits 0–7 refusal, 8–15 kind, 16–23 island or flag, 32–63 figure.
+    fn step(&self, board: &mut [u8], station: u8) -> u64;
+    /// Bits 0–7 refusal, 8–31 taken, 32–55 passed over.
+    fn run(&self, board: &mut [u8], stations: &[u8]) -> u64;
+    /// Bits 0–7 refusal, 16–31 length; the line has zeros after its end.
+    fn show(&self, board: &[u8], line: &mut [u8]) -> u32;
+    /// Where the word starts and its length; with no word the length is 0 and the start says nothing.
+    fn word(&self, line: &[u8]) -> (u32, u32);
+    /// What is printed, with or without its LF, and how much is laid afterwards.
+    fn play_line(&self, line: &[u8], laid: usize, memory: &mut [u8]) -> (Vec<u8>, usize);
+}
+
+pub struct Reference;
+
+fn number(result: Result<(), Refusal>) -> u8 {
+    result.map_or_else(Refusal::number, |()| 0)
+}
+
+fn packed(kind: u64, place: u8, figure: i64) -> u64 {
+    kind << 8 | (place as u64) << 16 | (figure as i32 as u32 as u64) << 32
+}
+
+fn packed_answer(answer: Answer) -> u64 {
+    match answer {
+        Answer::Wrote => packed(1, 0, 0),
+        Answer::Read => packed(2, 0, 0),
+        Answer::Went(c, v) => packed(3, c, v),
+        Answer::Marked(flag, v) => packed(4, mark_byte(flag), v),
+        Answer::Adopted(c, v) => packed(5, c, v),
+        Answer::Decided(c, v) => packed(6, c, v),
+        Answer::Spent(c, v) => packed(7, c, v),
+    }
+}
+
+impl Engine for Reference {
+    fn lay(&self, board: &mut [u8], n: u8, k: u8) -> u8 {
+        number(calls::lay(board, n, k))
+    }
+
+    fn propose(&self, board: &mut [u8], station: u8, figure: i32) -> u8 {
+        number(calls::propose(board, station, figure))
+    }
+
+    fn check(&self, board: &[u8]) -> u8 {
+        number(calls::check(board))
+    }
+
+    fn step(&self, board: &mut [u8], station: u8) -> u64 {
+        calls::step(board, station).map_or_else(|r| r.number() as u64, packed_answer)
+    }
+
+    fn run(&self, board: &mut [u8], stations: &[u8]) -> u64 {
+        match calls::run(board, stations) {
+            Ok((taken, passed)) => (taken as u64) << 8 | (passed as u64) << 32,
+            Err(refusal) => refusal.number() as u64,
+        }
+    }
+
+    fn show(&self, board: &[u8], line: &mut [u8]) -> u32 {
+        if line.len() < SHOWN {
+            return u32::MAX;
+        }
+        line[..SHOWN].fill(0);
+        match calls::show(board) {
+            Ok(text) => {
+                line[..text.len()].copy_from_slice(text.as_bytes());
+                (text.len() as u32) << 16
+            }
+            Err(refusal) => refusal.number() as u32,
+        }
+    }
+
+    fn word(&self, line: &[u8]) -> (u32, u32) {
+        let (start, length) = sheet::word(line);
+        (start as u32, length as u32)
+    }
+
+    fn play_line(&self, line: &[u8], laid: usize, memory: &mut [u8]) -> (Vec<u8>, usize) {
+        let (printed, laid) = sheet::play_line(line, laid, memory);
+        (printed.into_bytes(), laid)
+    }
+}
+
+#[cfg(feature = "engine")]
+pub use linked::Linked;
+
+#[cfg(feature = "engine")]
+mod linked {
+    use super::{Engine, PRINTED};
+
+    extern "C" {
+        fn lufanelis_lay(board: *mut u8, length: usize, n: u8, k: u8) -> u8;
+        fn lufanelis_propose(board: *mut u8, length: usize, station: u8, figure: i32) -> u8;
+        fn lufanelis_check(board: *const u8, length: usize) -> u8;
+        fn lufanelis_step(board: *mut u8, length: usize, station: u8) -> u64;
+        fn lufanelis_run(board: *mut u8, length: usize, stations: *const u8, count: usize) -> u64;
+        fn lufanelis_show(board: *const u8, length: usize, line: *mut u8, room: usize) -> u32;
+        fn lufanelis_word(line: *const u8, length: usize) -> u64;
+        fn lufanelis_play_line(
+            line: *const u8,
+            length: usize,
+            laid: usize,
+            memory: *mut u8,
+            size: usize,
+            printed: *mut u8,
+            room: usize,
+        ) -> u64;
+    }
+
+    pub struct Linked;
+
+    // Each call lends memory that this side owns for the length of the call, with its true length.
+    impl Engine for Linked {
+        fn lay(&self, board: &mut [u8], n: u8, k: u8) -> u8 {
+            unsafe { lufanelis_lay(board.as_mut_ptr(), board.len(), n, k) }
+        }
+
+        fn propose(&self, board: &mut [u8], station: u8, figure: i32) -> u8 {
+            unsafe { lufanelis_propose(board.as_mut_ptr(), board.len(), station, figure) }
+        }
+
+        fn check(&self, board: &[u8]) -> u8 {
+            unsafe { lufanelis_check(board.as_ptr(), board.len()) }
+        }
+
+        fn step(&self, board: &mut [u8], station: u8) -> u64 {
+            unsafe { lufanelis_step(board.as_mut_ptr(), board.len(), station) }
+        }
+
+        fn run(&self, board: &mut [u8], stations: &[u8]) -> u64 {
+            unsafe { lufanelis_run(board.as_mut_ptr(), board.len(), stations.as_ptr(), stations.len()) }
+        }
+
+        fn show(&self, board: &[u8], line: &mut [u8]) -> u32 {
+            unsafe { lufanelis_show(board.as_ptr(), board.len(), line.as_mut_ptr(), line.len()) }
+        }
+
+        fn word(&self, line: &[u8]) -> (u32, u32) {
+            let packed = unsafe { lufanelis_word(line.as_ptr(), line.len()) };
+            (packed as u32, (packed >> 32) as u32)
+        }
+
+        fn play_line(&self, line: &[u8], laid: usize, memory: &mut [u8]) -> (Vec<u8>, usize) {
+            let mut printed = vec![0; PRINTED];
+            let packed = unsafe {
+                let (out, room) = (printed.as_mut_ptr(), printed.len());
+                lufanelis_play_line(line.as_ptr(), line.len(), laid, memory.as_mut_ptr(), memory.len(), out, room)
+            };
+            printed.truncate(packed as u16 as usize);
+            (printed, (packed >> 16) as usize)
+        }
+    }
+}
