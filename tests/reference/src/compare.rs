@@ -84,8 +84,9 @@ impl<'a> Compare<'a> {
         }
     }
 
-    /// One call on two copies of a board; a difference is told and the copies are made equal again.
-    pub fn call(&mut self, seed: u64, call: Call, ours: &mut [u8], theirs: &mut [u8]) {
+    /// One call on two copies of a board. A difference is told, and the copies are made equal again. Answers what the
+    /// reference answered.
+    pub fn call(&mut self, seed: u64, call: Call, ours: &mut [u8], theirs: &mut [u8]) -> u64 {
         let mut before = std::mem::take(&mut self.before);
         before.clear();
         before.extend_from_slice(ours);
@@ -105,6 +106,7 @@ impl<'a> Compare<'a> {
             theirs.copy_from_slice(ours);
         }
         self.before = before;
+        expected.0
     }
 
     fn count(&mut self, call: Call, answer: u64) {
@@ -153,15 +155,41 @@ impl<'a> Compare<'a> {
         let mut ours: Vec<u8> = (0..length(list.n, list.k)).map(|_| r.byte()).collect();
         let mut theirs = ours.clone();
         self.call(seed, Call::Lay(list.n, list.k), &mut ours, &mut theirs);
+        let mut done = [false; 256];
         for call in &list.calls {
-            let call = match *call {
-                lists::Call::Lay(n, k) => Call::Lay(n, k),
-                lists::Call::Propose(i, v) => Call::Propose(i, v),
-                lists::Call::Step(i) => Call::Step(i),
+            match *call {
+                lists::Call::Lay(n, k) => self.call(seed, Call::Lay(n, k), &mut ours, &mut theirs),
+                lists::Call::Propose(i, v) => self.call(seed, Call::Propose(i, v), &mut ours, &mut theirs),
+                // A station that has ended refuses all its further steps; a few of them are enough.
+                lists::Call::Step(i) if done[i as usize] && !r.once_in(16) => 0,
+                lists::Call::Step(i) => {
+                    let answer = self.call(seed, Call::Step(i), &mut ours, &mut theirs);
+                    done[i as usize] = matches!(answer & 0xFF, 15 | 16);
+                    answer
+                }
             };
-            self.call(seed, call, &mut ours, &mut theirs);
         }
         self.call(seed, Call::Show(SHOWN), &mut ours, &mut theirs);
+    }
+
+    /// A list from a fresh board, its steps put together to runs.
+    pub fn listed_runs(&mut self, seed: u64) {
+        let list = lists::make(seed);
+        let mut ours = vec![0; length(list.n, list.k)];
+        let mut theirs = ours.clone();
+        self.call(seed, Call::Lay(list.n, list.k), &mut ours, &mut theirs);
+        let step = |call: &lists::Call| matches!(call, lists::Call::Step(_));
+        for group in list.calls.chunk_by(|a, b| step(a) && step(b)) {
+            match group[0] {
+                lists::Call::Lay(n, k) => self.call(seed, Call::Lay(n, k), &mut ours, &mut theirs),
+                lists::Call::Propose(i, v) => self.call(seed, Call::Propose(i, v), &mut ours, &mut theirs),
+                lists::Call::Step(_) => {
+                    let number = |call: &lists::Call| if let lists::Call::Step(i) = call { *i } else { 0 };
+                    let stations: Vec<u8> = group.iter().map(number).collect();
+                    self.call(seed, Call::Run(&stations), &mut ours, &mut theirs)
+                }
+            };
+        }
     }
 
     /// Whole runs: from a fresh board on which all propose, or from a sound one.
@@ -239,30 +267,41 @@ impl<'a> Compare<'a> {
         }
     }
 
-    /// A sheet, line by line on two memories of which every byte is compared.
+    /// A sheet, line by line on two memories of which every byte is compared. In some sheets the memory comes to harm
+    /// between lines, or another length is said to be laid.
     pub fn lines(&mut self, seed: u64) {
         let mut r = Random::new(seed);
         let sheet = sheets::sheet(seed);
         let mut ours: Vec<u8> = (0..length(16, 64)).map(|_| r.byte()).collect();
         let mut theirs = ours.clone();
         let mut laid = 0;
+        let harm = r.once_in(3);
         for line in sheet::lines(&sheet) {
-            let expected = Reference.play_line(line, laid, &mut ours);
-            let (mut printed, after) = self.engine.play_line(line, laid, &mut theirs);
-            if printed.last() == Some(&b'\n') {
-                printed.pop();
+            if harm && laid > 0 && r.once_in(10) {
+                ours[r.below(laid)] = r.below(4) as u8;
+                laid = if r.once_in(3) { r.below(ours.len() + 1) } else { laid };
+                theirs.copy_from_slice(&ours);
             }
-            self.counts.lines += 1;
-            let same = (&printed, after) == (&expected.0, expected.1) && ours == theirs;
-            self.verdict(same, || {
-                let texts = [line, &printed, &expected.0].map(|t| t.escape_ascii().to_string());
-                let [line, got, want] = texts;
-                format!("seed {seed}: {line}: the engine prints {got}, {after} laid, the reference {want}, {}", expected.1)
-            });
-            theirs.copy_from_slice(&ours);
-            laid = expected.1;
+            laid = self.line(seed, line, laid, &mut ours, &mut theirs);
             self.word(seed, line);
         }
+    }
+
+    fn line(&mut self, seed: u64, line: &[u8], laid: usize, ours: &mut [u8], theirs: &mut [u8]) -> usize {
+        let (want, after) = Reference.play_line(line, laid, ours);
+        let (mut got, their_after) = self.engine.play_line(line, laid, theirs);
+        if got.last() == Some(&b'\n') {
+            got.pop();
+        }
+        self.counts.lines += 1;
+        let same = (&got, their_after) == (&want, after) && ours == theirs;
+        self.verdict(same, || {
+            let [line, got, want] = [line, &got, &want].map(|t| t.escape_ascii().to_string());
+            let engine = format!("the engine prints {got} with {their_after} laid");
+            format!("seed {seed}: {line} with {laid} laid: {engine}, the reference {want} with {after}")
+        });
+        theirs.copy_from_slice(ours);
+        after
     }
 
     /// With no word the part is empty, and an empty part has no place.
@@ -293,7 +332,10 @@ impl<'a> Compare<'a> {
     /// One round of everything.
     pub fn round(&mut self, seed: u64) {
         self.driven(seed);
-        self.runs(seed);
+        for part in 0..8 {
+            self.listed_runs(seed.wrapping_mul(64) + part);
+            self.runs(seed.wrapping_mul(64) + part);
+        }
         for part in 0..6 {
             self.sound_board(seed.wrapping_mul(64) + part);
             self.damaged_board(seed.wrapping_mul(64) + 32 + part);

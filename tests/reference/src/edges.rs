@@ -91,7 +91,7 @@ fn lengths() -> Vec<Edge> {
         Edge { name: "last line of 255, no LF", sheet: format!("{HEAD}{}", steps_of_length(255)).into_bytes() },
         Edge { name: "last line of 256, no LF", sheet: format!("{HEAD}{}", steps_of_length(256)).into_bytes() },
     ];
-    for length in [32_767, 32_768, 32_769, 32_770, 65_536, 70_000] {
+    for length in [32_767, 32_768, 32_769, 32_770, 65_535, 65_536, 65_537, 70_000, 1_000_000] {
         out.push(Edge { name: "sheet length", sheet: sheet_of_length(length, "(steps 1 2)") });
         out.push(Edge { name: "sheet length, shows", sheet: sheet_of_length(length, "(show)") });
         out.push(Edge { name: "sheet length, one line", sheet: vec![b' '; length] });

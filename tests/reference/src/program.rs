@@ -3,6 +3,9 @@
 use std::io::{Read, Write};
 use std::process::{Command, Stdio};
 
+/// The whole sheet in one piece.
+pub const WHOLE: usize = usize::MAX;
+
 /// What the program did with a sheet.
 #[derive(Clone, PartialEq, Eq, Debug)]
 pub struct Ending {
@@ -11,8 +14,9 @@ pub struct Ending {
     pub well: bool,
 }
 
-/// The sheet is written from a thread, because the program may print before it has read everything.
-pub fn run(program: &str, sheet: &[u8]) -> std::io::Result<Ending> {
+/// The sheet is written from a thread, because the program may print before it has read everything. It is written in
+/// pieces of at most `piece` bytes, so that the program meets reads that end early.
+pub fn run(program: &str, sheet: &[u8], piece: usize) -> std::io::Result<Ending> {
     let mut child = Command::new(program)
         .stdin(Stdio::piped())
         .stdout(Stdio::piped())
@@ -22,7 +26,14 @@ pub fn run(program: &str, sheet: &[u8]) -> std::io::Result<Ending> {
     let mut errors = child.stderr.take().expect("piped");
     let sheet = sheet.to_vec();
     // A program that stops reading early breaks the pipe; what it printed is judged all the same.
-    let writer = std::thread::spawn(move || drop(input.write_all(&sheet)));
+    let writer = std::thread::spawn(move || {
+        for part in sheet.chunks(piece) {
+            if input.write_all(part).is_err() {
+                return;
+            }
+            std::thread::yield_now();
+        }
+    });
     let listener = std::thread::spawn(move || {
         let mut complained = Vec::new();
         drop(errors.read_to_end(&mut complained));
@@ -37,8 +48,8 @@ pub fn run(program: &str, sheet: &[u8]) -> std::io::Result<Ending> {
 }
 
 /// What is asked of the program: the same output, nothing on standard error, a normal end.
-pub fn difference(program: &str, sheet: &[u8], expected: &[u8]) -> Option<String> {
-    let ending = match run(program, sheet) {
+pub fn difference(program: &str, sheet: &[u8], expected: &[u8], piece: usize) -> Option<String> {
+    let ending = match run(program, sheet, piece) {
         Ok(ending) => ending,
         Err(error) => return Some(format!("the program did not run: {error}")),
     };

@@ -78,7 +78,7 @@ fn circling(r: &mut Random, n: usize) -> Vec<String> {
     let figure = r.figure().saturating_add(1);
     let first = format!("(propose {high} {figure})");
     let second = format!("(propose {low} {})", figure - 1);
-    let steps = format!("(steps {})", circle(n, high, r.between(1, 3)));
+    let steps = format!("(steps {})", circle(n, high, r.pick(&[1, 2, 2, 3, 63, 64])));
     vec!["(show)".to_string(), steps, second, first]
 }
 

@@ -95,7 +95,7 @@ fn decided_of(line: &str) -> Option<Vec<(Option<i32>, bool)>> {
 fn sequential_by(program: &str, n: u8, k: u8, order: &[(u8, i32)]) -> Vec<Option<i32>> {
     let turn = |(i, v): &(u8, i32)| format!("(propose {i} {v})\n(steps (times {} {i}))\n", 3 * (n as usize + 1) * k as usize);
     let sheet = format!("(board {n} {k})\n{}(show)\n", order.iter().map(turn).collect::<String>());
-    let printed = program::run(program, sheet.as_bytes()).map(|e| e.printed).unwrap_or_default();
+    let printed = program::run(program, sheet.as_bytes(), program::WHOLE).map(|e| e.printed).unwrap_or_default();
     let text = String::from_utf8_lossy(&printed).into_owned();
     let shown = text.lines().last().and_then(decided_of).unwrap_or_default();
     order.iter().map(|(i, _)| shown.get(*i as usize - 1).and_then(|s| s.0)).collect()
@@ -105,7 +105,7 @@ fn sequential_by(program: &str, n: u8, k: u8, order: &[(u8, i32)]) -> Vec<Option
 fn by_program(tally: &mut Tally, program: &str, lists: &[(u64, List)]) {
     let parts: Vec<Vec<(String, Call)>> = lists.iter().map(|(_, list)| lines(list)).collect();
     let sheet: String = parts.iter().flatten().map(|(text, _)| format!("{text}\n")).collect();
-    let printed = program::run(program, sheet.as_bytes()).map(|e| e.printed).unwrap_or_default();
+    let printed = program::run(program, sheet.as_bytes(), program::WHOLE).map(|e| e.printed).unwrap_or_default();
     let text = String::from_utf8_lossy(&printed).into_owned();
     let mut left: &[&str] = &text.lines().collect::<Vec<_>>();
     for ((seed, list), part) in lists.iter().zip(&parts) {
