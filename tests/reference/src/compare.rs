@@ -5,6 +5,7 @@ use crate::bytes::length;
 use crate::engine::{Engine, Reference, SHOWN};
 use crate::lists;
 use crate::random::Random;
+use crate::reach;
 use crate::{sheet, sheets};
 
 #[derive(Clone, Copy, Debug)]
@@ -326,6 +327,18 @@ impl<'a> Compare<'a> {
             self.word(seed, &line);
             let long: Vec<u8> = line.repeat(40);
             self.word(seed, &long);
+        }
+    }
+
+    /// Every call on every board that a small laying can come to.
+    pub fn reached(&mut self, k: u8, figures: &[i32]) {
+        for board in reach::every_board(k, figures) {
+            for station in 0..=figures.len() as u8 + 1 {
+                self.once(0, Call::Step(station), &board);
+                self.once(0, Call::Propose(station, 1), &board);
+            }
+            self.once(0, Call::Check, &board);
+            self.once(0, Call::Show(SHOWN), &board);
         }
     }
 

@@ -14,16 +14,11 @@ fn nested(times: usize) -> String {
 /// A `steps` line of exactly this many bytes.
 fn steps_of_length(length: usize) -> String {
     let mut line = String::from("(steps");
-    while line.len() + 3 < length {
+    while line.len() + 3 <= length {
         line.push_str(" 1");
     }
-    if line.len() + 1 < length {
-        line.push_str(if line.len() + 3 == length { " 1" } else { "" });
-    }
+    line.push_str(&"0".repeat(length - 1 - line.len()));
     line.push(')');
-    if line.len() < length {
-        line.insert_str(line.len() - 1, &"0".repeat(length - line.len()));
-    }
     assert_eq!(line.len(), length);
     line
 }
@@ -70,6 +65,7 @@ pub fn edges() -> Vec<Edge> {
     all
 }
 
+#[rustfmt::skip]
 fn before_a_board() -> Vec<Edge> {
     let lines = [
         "(show)", "(propose 1 1)", "(steps)", "(steps 1)", "(steps (times 65537 1))", "(board 0 2)", "(board 17 2)",
@@ -115,6 +111,7 @@ fn depths() -> Vec<Edge> {
     vec![Edge { name: "depths", sheet: after_head(&lines) }]
 }
 
+#[rustfmt::skip]
 fn step_counts() -> Vec<Edge> {
     let lines = texts(&[
         "(steps (times 65535 1))", "(steps (times 65536 1))", "(steps (times 65537 1))", "(steps (times 65536 1) 2)",
@@ -137,6 +134,7 @@ fn proposals() -> String {
     (1..=16).map(|i| format!("(propose {i} -21474836{})\n", 10 + i)).collect()
 }
 
+#[rustfmt::skip]
 fn ranges() -> Vec<Edge> {
     let mut boards = Vec::new();
     for n in [0, 1, 2, 15, 16, 17, 98, 99, 100, 255, 256, 257] {
@@ -166,6 +164,7 @@ fn ranges() -> Vec<Edge> {
     ]
 }
 
+#[rustfmt::skip]
 fn spellings() -> Vec<Edge> {
     let lines = texts(&[
         "()", "(())", "(", ")", "(show", "show", "show)", "(show))", "((show))", "(show )", "( show)", " (show)", "(show) ",
@@ -185,6 +184,7 @@ fn spellings() -> Vec<Edge> {
 }
 
 /// Every byte but LF put into the places of a form.
+#[rustfmt::skip]
 fn bytes() -> Vec<Edge> {
     let mut out = Vec::new();
     for pattern in [["", ""], ["(", "show)"], ["(show", ")"], ["(show)", ""], ["", "(show)"], ["(steps", "1)"],
@@ -205,8 +205,11 @@ fn starred() -> Vec<Edge> {
     let circle = "(board 2 2)\n(propose 1 7)\n(propose 2 3)\n\
         (steps (times 2 (times 3 2) (times 3 1) (times 3 2) (times 6 1) (times 3 2)))\n(show)\n(steps 1 2)\n";
     let equal = "(board 3 2)\n(propose 1 5)\n(propose 2 5)\n(propose 3 5)\n(steps (times 12 1 2 3))\n(show)\n";
-    let longest = format!("(board 16 64)\n{}(steps (times 300 1 2 3 4 5 6 7 8 9 10 11 12 13 14 15 16))\n{}", proposals(),
-        "(show)\n".repeat(4_000));
+    let longest = format!(
+        "(board 16 64)\n{}(steps (times 300 1 2 3 4 5 6 7 8 9 10 11 12 13 14 15 16))\n{}",
+        proposals(),
+        "(show)\n".repeat(4_000)
+    );
     let first = format!("{HEAD}(steps (times 12 1))\n(show)\n(steps (times 24 2))\n(show)\n(steps 1 2 3 4)\n");
     vec![
         Edge { name: "the document's first sheet", sheet: first.into_bytes() },

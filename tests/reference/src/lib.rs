@@ -14,6 +14,7 @@ pub mod lists;
 pub mod model;
 pub mod program;
 pub mod random;
+pub mod reach;
 pub mod refusal;
 pub mod sheet;
 pub mod sheets;

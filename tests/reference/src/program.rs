@@ -17,11 +17,8 @@ pub struct Ending {
 /// The sheet is written from a thread, because the program may print before it has read everything. It is written in
 /// pieces of at most `piece` bytes, so that the program meets reads that end early.
 pub fn run(program: &str, sheet: &[u8], piece: usize) -> std::io::Result<Ending> {
-    let mut child = Command::new(program)
-        .stdin(Stdio::piped())
-        .stdout(Stdio::piped())
-        .stderr(Stdio::piped())
-        .spawn()?;
+    let mut child =
+        Command::new(program).stdin(Stdio::piped()).stdout(Stdio::piped()).stderr(Stdio::piped()).spawn()?;
     let mut input = child.stdin.take().expect("piped");
     let mut errors = child.stderr.take().expect("piped");
     let sheet = sheet.to_vec();

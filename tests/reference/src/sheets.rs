@@ -23,7 +23,8 @@ pub fn sheet(seed: u64) -> Vec<u8> {
     let mut out = Vec::new();
     let mut laid = Laid { n: 2, lines_left: 0, soon: vec![] };
     for at in 0..lines {
-        let mut line = if at == 0 && !r.once_in(20) { board(&mut r, &mut laid) } else { form(&mut r, &mut laid, heavy) };
+        let mut line =
+            if at == 0 && !r.once_in(20) { board(&mut r, &mut laid) } else { form(&mut r, &mut laid, heavy) };
         if spoil > 0 && r.once_in(spoil) {
             line = spoilt(&mut r, line);
         }
@@ -200,13 +201,15 @@ fn respace(r: &mut Random, line: &mut Vec<u8>) {
 
 /// Another way to write a number, or a number near the end of a range.
 fn renumber(r: &mut Random, line: &mut Vec<u8>) {
+    #[rustfmt::skip]
     const NUMBERS: [&str; 32] = [
-        "00", "01", "-0", "+1", "-1", "-01", "--1", "-", "+", "0", "1", "2", "16", "17", "64", "65", "98", "99", "100",
-        "101", "255", "256", "99998", "99999", "100000", "2147483647", "2147483648", "-2147483648", "-2147483649",
-        "4294967297", "18446744073709551617", "340282366920938463463374607431768211457",
+        "00", "01", "-0", "+1", "-1", "-01", "--1", "-", "+", "0", "1", "2", "16", "17", "64", "65", "98", "99",
+        "100", "101", "255", "256", "99998", "99999", "100000", "2147483647", "2147483648", "-2147483648",
+        "-2147483649", "4294967297", "18446744073709551617", "340282366920938463463374607431768211457",
     ];
     let digit = |b: &u8| b.is_ascii_digit() || *b == b'-';
-    let starts: Vec<usize> = (0..line.len()).filter(|i| digit(&line[*i]) && (*i == 0 || !digit(&line[i - 1]))).collect();
+    let starts: Vec<usize> =
+        (0..line.len()).filter(|i| digit(&line[*i]) && (*i == 0 || !digit(&line[i - 1]))).collect();
     if starts.is_empty() {
         return;
     }
@@ -225,6 +228,7 @@ fn recase(r: &mut Random, line: &mut [u8]) {
 
 /// A line of the grammar's own pieces in any order, or of any bytes.
 fn made_up(r: &mut Random) -> Vec<u8> {
+    #[rustfmt::skip]
     const PIECES: [&str; 20] = [
         "(", ")", "(", ")", " ", " ", " ", "1", "2", "0", "-1", "99", "board", "propose", "steps", "show", "times",
         "(times 2 ", "(steps ", "(board ",

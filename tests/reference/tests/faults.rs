@@ -23,7 +23,11 @@ struct Faulty(Fault);
 impl Faulty {
     /// A kind in bits 8 to 15 put in the place of another.
     fn kind(&self, answer: u64, from: u64, to: u64) -> u64 {
-        if answer & 0xFF00 == from << 8 { answer & !0xFF00 | to << 8 } else { answer }
+        if answer & 0xFF00 == from << 8 {
+            answer & !0xFF00 | to << 8
+        } else {
+            answer
+        }
     }
 }
 
@@ -69,7 +73,11 @@ impl Engine for Faulty {
     }
 
     fn word(&self, line: &[u8]) -> (u32, u32) {
-        if self.0 == TakesTimesForAWord && line.starts_with(b"(times ") { (1, 5) } else { Reference.word(line) }
+        if self.0 == TakesTimesForAWord && line.starts_with(b"(times ") {
+            (1, 5)
+        } else {
+            Reference.word(line)
+        }
     }
 
     fn play_line(&self, line: &[u8], laid: usize, memory: &mut [u8]) -> (Vec<u8>, usize) {
@@ -96,8 +104,14 @@ fn the_reference_beside_itself() {
 #[test]
 fn each_fault_is_found() {
     let faults = [
-        TouchesOnRefusal, StepsOnAnUnsoundBoard, DecidesBesideAnAdopt, SpentEarly, CountsOneTooMany, LeavesTheLine,
-        TakesTimesForAWord, LaysTooMuch,
+        TouchesOnRefusal,
+        StepsOnAnUnsoundBoard,
+        DecidesBesideAnAdopt,
+        SpentEarly,
+        CountsOneTooMany,
+        LeavesTheLine,
+        TakesTimesForAWord,
+        LaysTooMuch,
     ];
     for fault in faults {
         assert!(failed(fault) > 0, "{fault:?}");

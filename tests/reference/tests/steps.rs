@@ -74,3 +74,17 @@ fn a_step_follows_from_its_own_record_and_one_register() {
         assert_eq!(record(&first), record(&second));
     }
 }
+
+/// A run keeps all that a collect has heard, single calls only what the record sums up: both end alike.
+#[test]
+fn a_run_is_its_single_steps() {
+    let mut r = Random::new(24);
+    for _ in 0..TRIES {
+        let (n, _, mut whole) = board(&mut r);
+        let mut single = whole.clone();
+        let stations: Vec<u8> = (0..r.below(60)).map(|_| r.between(0, n as usize + 1) as u8).collect();
+        let taken = stations.iter().filter(|s| calls::step(&mut single, **s).is_ok()).count();
+        assert_eq!(calls::run(&mut whole, &stations), Ok((taken, stations.len() - taken)));
+        assert_eq!(whole, single);
+    }
+}

@@ -1,9 +1,11 @@
 //! lists PROGRAM COUNT SEED: demand 3 on made lists, by the calls of this package and by what the program prints.
-//! With `-` for the program only the calls of this package are asked. A count of 0 goes on for ever.
+//! With `-` for the program only the calls of this package are asked. A count of 0 goes on for ever. A fourth argument
+//! `three` adds every board that three stations can come to, some 1.4 million and half a minute.
 
 use reference::lists::{judge, make, order_for, play, sequential, Call, Deeds, List};
 use reference::program;
 use reference::random::Random;
+use reference::reach::{deeds, every_board};
 
 #[derive(Default)]
 struct Tally {
@@ -61,7 +63,9 @@ fn deeds_of(list: &List, lines: &[(String, Call)], printed: &[&str]) -> Option<V
     let mut deeds = vec![Deeds::default(); list.n as usize];
     for ((_, call), answer) in lines.iter().zip(printed) {
         match *call {
-            Call::Propose(i, v) if answer.starts_with("(proposed ") => deeds.get_mut(i as usize - 1)?.proposed = Some(v),
+            Call::Propose(i, v) if answer.starts_with("(proposed ") => {
+                deeds.get_mut(i as usize - 1)?.proposed = Some(v)
+            }
             Call::Step(i) if answer.starts_with("(ran ") && !answer.starts_with("(ran 0 ") => {
                 deeds.get_mut(i as usize - 1)?.stepped = true
             }
@@ -93,7 +97,8 @@ fn decided_of(line: &str) -> Option<Vec<(Option<i32>, bool)>> {
 
 /// A sequential run played by the program.
 fn sequential_by(program: &str, n: u8, k: u8, order: &[(u8, i32)]) -> Vec<Option<i32>> {
-    let turn = |(i, v): &(u8, i32)| format!("(propose {i} {v})\n(steps (times {} {i}))\n", 3 * (n as usize + 1) * k as usize);
+    let turn =
+        |(i, v): &(u8, i32)| format!("(propose {i} {v})\n(steps (times {} {i}))\n", 3 * (n as usize + 1) * k as usize);
     let sheet = format!("(board {n} {k})\n{}(show)\n", order.iter().map(turn).collect::<String>());
     let printed = program::run(program, sheet.as_bytes(), program::WHOLE).map(|e| e.printed).unwrap_or_default();
     let text = String::from_utf8_lossy(&printed).into_owned();
@@ -145,15 +150,33 @@ fn any_order(tally: &mut Tally, seed: u64) {
     tally.take(&format!("sequential, seed {seed}"), &deeds, verdict);
 }
 
+/// The claim on every board that two or three stations can come to, by whatever list.
+fn all_lists(tally: &mut Tally, k: u8, figures: &[i32]) {
+    let boards = every_board(k, figures);
+    println!("{} boards reached with K = {k} and figures {figures:?}", boards.len());
+    for board in boards {
+        let deeds = deeds(&board);
+        let verdict = judge(figures.len() as u8, k, &deeds, &mut Random::new(1), &sequential);
+        tally.take(&format!("K = {k}, figures {figures:?}"), &deeds, verdict);
+    }
+}
+
 fn main() {
     let arguments: Vec<String> = std::env::args().collect();
-    let [_, program, count, seed] = arguments.as_slice() else {
-        eprintln!("lists PROGRAM COUNT SEED, or - for PROGRAM");
+    let [_, program, count, seed, more @ ..] = arguments.as_slice() else {
+        eprintln!("lists PROGRAM COUNT SEED [three], or - for PROGRAM");
         std::process::exit(2);
     };
     let (count, first): (u64, u64) = (count.parse().expect("a number"), seed.parse().expect("a number"));
     println!("seeds from {first}");
     let (mut calls, mut sheets, mut orders) = (Tally::default(), Tally::default(), Tally::default());
+    let mut reached = Tally::default();
+    for (k, figures) in [(2, [3, 7]), (2, [7, 3]), (2, [5, 5]), (4, [3, 7])] {
+        all_lists(&mut reached, k, &figures);
+    }
+    if more == ["three"] {
+        all_lists(&mut reached, 2, &[7, 3, 5]);
+    }
     let mut waiting: Vec<(u64, List)> = Vec::new();
     let mut size = 0;
     for at in 0.. {
@@ -184,8 +207,9 @@ fn main() {
     }
     calls.print("single calls");
     orders.print("sequential runs");
-    let passed = calls.passed + sheets.passed + orders.passed;
-    let failed = calls.failed + sheets.failed + orders.failed;
+    reached.print("all boards reached");
+    let passed = calls.passed + sheets.passed + orders.passed + reached.passed;
+    let failed = calls.failed + sheets.failed + orders.failed + reached.failed;
     println!("{passed} passed, {failed} failed");
     std::process::exit((failed > 0) as i32);
 }

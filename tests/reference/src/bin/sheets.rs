@@ -40,7 +40,10 @@ impl Tally {
     fn print(&self) {
         println!(
             "{} sheets, {} lines, {} of them refused, {} steps taken",
-            self.passed + self.failed, self.lines, self.refused, self.steps
+            self.passed + self.failed,
+            self.lines,
+            self.refused,
+            self.steps
         );
     }
 }
