@@ -4,6 +4,9 @@
 use reference::sheet::{lines, play};
 use reference::{edges, program, sheets, shorten};
 
+/// Shortening runs the program often, so only the first failures are shortened.
+const SHORTENED: u64 = 5;
+
 struct Tally {
     passed: u64,
     failed: u64,
@@ -21,7 +24,9 @@ impl Tally {
             Some(difference) => {
                 self.failed += 1;
                 println!("{name}: {difference}");
-                print_shortened(program, sheet, piece);
+                if self.failed <= SHORTENED {
+                    print_shortened(program, sheet, piece);
+                }
             }
         }
     }
