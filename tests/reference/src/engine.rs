@@ -9,8 +9,8 @@ use crate::sheet;
 
 pub const SHOWN: usize = calls::LONGEST_SHOW;
 
-/// Room for the longest line that is printed, with its LF.
-pub const PRINTED: usize = 1024;
+/// Room for a printed line of 512 bytes, and some more that must stay as it was.
+pub const PRINTED: usize = 520;
 
 pub trait Engine {
     /// 0 or the refusal's number.
@@ -23,9 +23,9 @@ pub trait Engine {
     fn run(&self, board: &mut [u8], stations: &[u8]) -> u64;
     /// Bits 0–7 refusal, 16–31 length; the line has zeros after its end.
     fn show(&self, board: &[u8], line: &mut [u8]) -> u32;
-    /// Where the word starts and its length; with no word the length is 0 and the start says nothing.
+    /// Where the word starts and its length; both are 0 with no word.
     fn word(&self, line: &[u8]) -> (u32, u32);
-    /// What is printed, with or without its LF, and how much is laid afterwards.
+    /// What is printed, without its LF, and how much is laid afterwards.
     fn play_line(&self, line: &[u8], laid: usize, memory: &mut [u8]) -> (Vec<u8>, usize);
 }
 
@@ -91,7 +91,7 @@ impl Engine for Reference {
 
     fn word(&self, line: &[u8]) -> (u32, u32) {
         let (start, length) = sheet::word(line);
-        (start as u32, length as u32)
+        if length == 0 { (0, 0) } else { (start as u32, length as u32) }
     }
 
     fn play_line(&self, line: &[u8], laid: usize, memory: &mut [u8]) -> (Vec<u8>, usize) {
@@ -106,6 +106,9 @@ pub use linked::Linked;
 #[cfg(feature = "engine")]
 mod linked {
     use super::{Engine, PRINTED};
+
+    /// What the buffer holds where nothing may be written.
+    const UNTOUCHED: u8 = 0xA5;
 
     extern "C" {
         fn lufanelis_lay(board: *mut u8, length: usize, n: u8, k: u8) -> u8;
@@ -160,12 +163,18 @@ mod linked {
         }
 
         fn play_line(&self, line: &[u8], laid: usize, memory: &mut [u8]) -> (Vec<u8>, usize) {
-            let mut printed = vec![0; PRINTED];
+            let mut printed = vec![UNTOUCHED; PRINTED];
             let packed = unsafe {
                 let (out, room) = (printed.as_mut_ptr(), printed.len());
                 lufanelis_play_line(line.as_ptr(), line.len(), laid, memory.as_mut_ptr(), memory.len(), out, room)
             };
-            printed.truncate(packed as u16 as usize);
+            let length = packed as u16 as usize;
+            let kept = printed[512..].iter().all(|b| *b == UNTOUCHED);
+            let zeros = printed.get(length..512).is_some_and(|rest| rest.iter().all(|b| *b == 0));
+            printed.truncate(length);
+            if !kept || !zeros {
+                printed.extend(b" and bytes that are not zeros, or behind the 512");
+            }
             (printed, (packed >> 16) as usize)
         }
     }
