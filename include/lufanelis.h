@@ -1,6 +1,7 @@
 /* The settlement engine as C calls it: crates/capi, built by `rt staticlib capi` to target/staticlib/libcapi.a.
  * Beside the archive a program links memcpy and memset, which every C library has.
- * The definitions of every answer are crates/capi/specs; each call is proved to give exactly what they say.
+ * The definitions of every answer are crates/packing/specs and crates/capi/specs; each call is proved to give exactly what
+ * they say.
  *
  * The engine owns no memory and keeps nothing between calls. It reads and writes lent bytes alone, of any content and any
  * length, and each call below says which of them it writes. A refusal changes no byte.

@@ -1,3 +1,3 @@
 -- Laws over plain variables, one subject a file.
-pub mod Packing
+pub mod Board
 pub mod Lines

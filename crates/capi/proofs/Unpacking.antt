@@ -16,7 +16,7 @@ use Rattle.model.specs.Show.{shownLine, shownAs, show}
 use Rattle.model.specs.Sheet.{playLine}
 use Rattle.player.specs.declared.line.Played.{Played}
 use Rattle.player.specs.Played.{Plays}
-use Rattle.capi.specs.Packing.{packed, packVerdict, packRun}
+use Rattle.packing.specs.Packing.{packed, packVerdict, packRun}
 use Rattle.capi.specs.Lines.{packShow, packWord, packPlayed}
 use Rattle.capi.proofs.Laws.Lines.{shown-fits, line-laid}
 

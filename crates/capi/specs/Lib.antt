@@ -1,3 +1,2 @@
--- What the calls for C answer: each answer as one number.
-pub mod Packing
+-- What the calls for C answer that hand back a line or a part of one.
 pub mod Lines

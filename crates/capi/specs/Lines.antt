@@ -7,7 +7,7 @@ use lib.Dec.{leb}
 use lib.ListN.{length, drop, replicate}
 use Rattle.model.specs.Show.{Shown}
 use Rattle.model.specs.Sheet.{Played}
-use Rattle.capi.specs.Packing.{packVerdict}
+use Rattle.packing.specs.Packing.{packVerdict}
 
 -- the 512 bytes of a line at the front of a buffer, and the rest as it was
 unfoldable pub handed : (line buffer : List ℕ) → List ℕ

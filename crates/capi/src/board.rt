@@ -3,10 +3,10 @@
 ghost use mathlib.Core.Path.{_≡_};
 ghost use mathlib.Core.Option.{none};
 ghost use Rattle.model.specs.Calls.{boardRefusal, lay, propose, step, run};
-ghost use Rattle.capi.specs.Packing.{packVerdict, packStep, packRun};
-use crate::packing::step_number;
-use crate::packing::verdict_number;
+ghost use Rattle.packing.specs.Packing.{packVerdict, packStep, packRun};
 use model::RunVerdict;
+use packing::step_number;
+use packing::verdict_number;
 
 #[no_mangle]
 pub extern "C" fn lufanelis_lay(board: &mut [u8], n: u8, k: u8) -> u8

@@ -5,7 +5,7 @@ ghost use Rattle.model.specs.Show.{show};
 ghost use Rattle.model.specs.Forms.{formWord};
 ghost use Rattle.model.specs.Sheet.{playLine};
 ghost use Rattle.capi.specs.Lines.{inRoom, playable, handed, packShow, packWord, packPlayed, filled};
-use crate::packing::verdict_number;
+use packing::verdict_number;
 
 // The number for a call that cannot be made: no other case gives it.
 const NO_ROOM: u32 = 0xFFFFFFFF;

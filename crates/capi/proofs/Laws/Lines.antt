@@ -26,7 +26,7 @@ use Rattle.model.proofs.Sheet.WrittenBack.{same-text}
 use Rattle.model.proofs.Calls.Refusals.{Shape, shape-of, some-none, call-case, unless-none, board-of}
 use Rattle.player.specs.declared.line.Played.{Played}
 use Rattle.player.specs.Played.{Plays}
-use Rattle.capi.specs.Packing.{packVerdict}
+use Rattle.packing.specs.Packing.{packVerdict}
 use Rattle.capi.specs.Lines.{handed, filled, inRoom, playable, packWord, packShow, packPlayed}
 
 -- ---- words

@@ -1,7 +1,7 @@
 -- `board::lufanelis_check` meets its contract: the call's own, with the verdict packed.
 use borrow.Author.Needs.{needs}
 use mathlib.Core.Path.{ap, _∙_}
-use Rattle.capi.specs.Packing.{packVerdict}
+use Rattle.packing.specs.Packing.{packVerdict}
 use Rattle.capi.proofs.board.lufanelis_check.Statement.{statement}
 use Rattle.capi.proofs.board.lufanelis_check.Tie as tie
 

@@ -1,7 +1,7 @@
 -- `board::lufanelis_lay` meets its contract: the call's own, with the verdict packed.
 -- Relies on the laws of the packing.
 use borrow.Author.Needs.{needs}
-use Rattle.capi.proofs.Laws.Packing.{packs}
+use Rattle.capi.proofs.Laws.Board.{packs}
 use Rattle.capi.proofs.board.lufanelis_lay.Statement.{statement}
 use Rattle.capi.proofs.board.lufanelis_lay.Tie as tie
 

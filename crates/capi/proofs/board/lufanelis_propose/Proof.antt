@@ -2,7 +2,7 @@
 -- Relies on the laws of the packing.
 use borrow.Author.Needs.{needs}
 use mir.Facts.{toZ-ofZ}
-use Rattle.capi.proofs.Laws.Packing.{proposes}
+use Rattle.capi.proofs.Laws.Board.{proposes}
 use Rattle.capi.proofs.board.lufanelis_propose.Statement.{statement}
 use Rattle.capi.proofs.board.lufanelis_propose.Tie as tie
 

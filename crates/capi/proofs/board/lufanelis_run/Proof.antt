@@ -1,7 +1,7 @@
 -- `board::lufanelis_run` meets its contract: the call's own, with its counts packed; both fit their bits, since 6 comes first.
 -- Relies on the laws of the packing.
 use borrow.Author.Needs.{needs}
-use Rattle.capi.proofs.Laws.Packing.{run-refused, counts-fit, run-counts}
+use Rattle.capi.proofs.Laws.Board.{run-refused, counts-fit, run-counts}
 use Rattle.capi.proofs.board.lufanelis_run.Statement.{statement}
 use Rattle.capi.proofs.board.lufanelis_run.Tie as tie
 

@@ -1,29 +1,21 @@
 -- The packing: what each return of a packing function has to show.
--- Relies on the packing's definitions and on the model's numbers; the proofs of `packing` and `board` rely on it.
+-- Relies on the packing's definitions and on the model's numbers; the functions' proofs rely on it.
 use mathlib.Core.Path.{_≡_, refl, sym, ap, _∙_}
 use mathlib.Core.List.{List}
-use mathlib.Core.Option.{none}
-use Prim.Native.Nat.{ℕ, _+_, _*_, _≤_, _<_}
+use Prim.Native.Nat.{ℕ, _+_, _*_, _≤_}
 use native.Mathlib.Omega.{arith}
-use lib.Dec.{leb, leb→le}
 use lib.IntN.{pos, negsuc}
-use lib.ListN.{length}
 use mir.Syntax.{w32}
 use mir.Val.{ofZ, SFits}
 use Rattle.model.specs.declared.StepAnswer.{StepAnswer}
 use Rattle.model.specs.declared.StepAnswer.the-variants.{Wrote, Read, Went, Marked, Adopted, Decided, Spent, Refused}
 use Rattle.model.specs.declared.Verdict.{Verdict}
 use Rattle.model.specs.declared.Verdict.the-variants as verdicts
-use Rattle.model.specs.declared.RunVerdict.{RunVerdict}
-use Rattle.model.specs.declared.RunVerdict.the-variants as runs
 use Rattle.model.specs.Bytes.{number, digits, part}
 use Rattle.model.specs.Figure.{Figure, figureBytes}
-use Rattle.model.specs.Calls.{After, Refusal, RunAnswer, ran, notRun, unless, boardRefusal, ranFrom, step, run, propose}
-use Rattle.model.specs.Told.{told, verdict, runTold}
+use Rattle.model.specs.Told.{told, verdict}
 use Rattle.model.proofs.Basics.Numbers.{number-digits}
-use Rattle.model.proofs.Calls.Refusals.{call-case, unless-none}
-use Rattle.model.proofs.Calls.Runs.{taken, passed, answers, ran-is, ran-both}
-use Rattle.capi.specs.Packing.{bits, packed, packVerdict, packStep, packRun}
+use Rattle.packing.specs.Packing.{bits, packed, packVerdict, packStep}
 
 -- ---- verdicts
 
@@ -34,18 +26,6 @@ accepted-is v e = ap (λ (w : Verdict). packVerdict (verdict w)) (sym e)
 pub refused-is : (v : Verdict) (k : ℕ) → v ≡ verdicts.Refused k → k ≡ packVerdict (verdict v)
 unfolding packVerdict verdict
 refused-is v k e = ap (λ (w : Verdict). packVerdict (verdict w)) (sym e)
-
--- the call's verdict, packed, beside the bytes that it left
-pub packs : (r : ℕ) (v : Verdict) (a : Refusal) (d e : List ℕ) → r ≡ packVerdict (verdict v) → (verdict v ≡ a) × (d ≡ e) → (r ≡ packVerdict a) × (d ≡ e)
-packs r v a d e h answered = (h ∙ ap packVerdict (answered .0), answered .1)
-
--- the figure as it was passed on
-pub proposes : (i : ℕ) (v z : Figure) (b : List ℕ) (r : ℕ) (w : Verdict) (d : List ℕ) → z ≡ v → r ≡ packVerdict (verdict w)
-    → (verdict w ≡ propose i z b .answer) × (d ≡ propose i z b .bytes) → (r ≡ packVerdict (propose i v b .answer)) × (d ≡ propose i v b .bytes)
-proposes i v z b r w d e h answered = (
-  h ∙ ap packVerdict (answered .0 ∙ ap (λ (x : Figure). propose i x b .answer) e),
-  answered .1 ∙ ap (λ (x : Figure). propose i x b .bytes) e,
-)
 
 -- ---- steps
 
@@ -105,36 +85,3 @@ module _ (a : StepAnswer) (c : ℕ) (v z : Figure) (r : ℕ) (s : z ≡ v) where
   pub spent-is : a ≡ Spent c v → r ≡ packed 0 7 c (bits z) → r ≡ packStep (told a)
   unfolding packStep told
   spent-is e h = same-bits 7 h ∙ ap (λ (x : StepAnswer). packStep (told x)) (sym e)
-
--- ---- runs
-
--- "6. The items expand to more than 65,536 steps.": the counts of a run that ran stay below
-few : (is b : List ℕ) (s t : ℕ) → run is b .answer ≡ ran s t → s + t ≤ 65536
-unfolding run
-few is b s t =
-    call-case (λ (a : After RunAnswer). a .answer ≡ ran s t → s + t ≤ 65536) (unless (leb (length is) 65536) 6 (boardRefusal b none)) notRun b (ranFrom step 0 0 is b)
-    counted (λ k e f. absurd (let z : _≡_ {A = ℕ} 0 1 = cc in omega arith))
-  where
-    counted : unless (leb (length is) 65536) 6 (boardRefusal b none) ≡ none → ranFrom step 0 0 is b .answer ≡ ran s t → s + t ≤ 65536
-    counted e f =
-        let g : ran (0 + taken (answers step b is)) (0 + passed (answers step b is)) ≡ ran s t = sym (ap (λ (a : After RunAnswer). a .answer) (ran-is step 0 0 is b)) ∙ f in
-        let p : 0 + taken (answers step b is) ≡ s = cc in
-        let q : 0 + passed (answers step b is) ≡ t = cc in
-        omega (arith, ran-both step b is, leb→le (length is) 65536 (unless-none (leb (length is) 65536) 6 (boardRefusal b none) e .0))
-
-module _ (is b : List ℕ) (w : RunVerdict) (d : List ℕ) (answered : (runTold w ≡ run is b .answer) × (d ≡ run is b .bytes)) where
-  pub run-refused : (k : ℕ) → w ≡ runs.Refused k → (k ≡ packRun (run is b .answer)) × (d ≡ run is b .bytes)
-  unfolding packRun runTold
-  run-refused k e = (ap packRun (sym (ap runTold e) ∙ answered .0), answered .1)
-
-  module _ (s t : ℕ) (e : w ≡ runs.Ran s t) where
-    its-counts : run is b .answer ≡ ran s t
-    unfolding runTold
-    its-counts = sym (answered .0) ∙ ap runTold e
-
-    pub counts-fit : s * 256 + t * 4294967296 < 18446744073709551616
-    counts-fit = omega (arith, few is b s t its-counts)
-
-    pub run-counts : (s * 256 + t * 4294967296 ≡ packRun (run is b .answer)) × (d ≡ run is b .bytes)
-    unfolding packRun
-    run-counts = (ap packRun (sym its-counts), answered .1)

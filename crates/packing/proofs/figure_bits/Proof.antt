@@ -1,10 +1,10 @@
--- `packing::figure_bits` meets its contract: the four bytes of a figure as a number are its bits.
+-- `figure_bits` meets its contract: the four bytes of a figure as a number are its bits.
 -- Relies on the laws of the packing.
 use borrow.Author.Needs.{needs}
 use mir.Facts.{toZ-ofZ}
-use Rattle.capi.proofs.Laws.Packing.{bits-are}
-use Rattle.capi.proofs.packing.figure_bits.Statement.{statement}
-use Rattle.capi.proofs.packing.figure_bits.Tie as tie
+use Rattle.packing.proofs.Laws.Packing.{bits-are}
+use Rattle.packing.proofs.figure_bits.Statement.{statement}
+use Rattle.packing.proofs.figure_bits.Tie as tie
 
 figure-bytes-requires : tie.Need-figure-bytes-requires
 figure-bytes-requires c κs = search needs

@@ -1,10 +1,10 @@
--- `packing::told_of` meets its contract: nothing wraps, and each part stands at its place.
+-- `told_of` meets its contract: nothing wraps, and each part stands at its place.
 -- Relies on the laws of the packing.
 use borrow.Author.Needs.{needs}
 use mir.Facts.{toZ-ofZ}
-use Rattle.capi.proofs.Laws.Packing.{told-is}
-use Rattle.capi.proofs.packing.told_of.Statement.{statement}
-use Rattle.capi.proofs.packing.told_of.Tie as tie
+use Rattle.packing.proofs.Laws.Packing.{told-is}
+use Rattle.packing.proofs.told_of.Statement.{statement}
+use Rattle.packing.proofs.told_of.Tie as tie
 
 mul-result : tie.Need-mul-result
 mul-result c = search needs

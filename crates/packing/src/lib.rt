@@ -1,8 +1,8 @@
 // Answers packed into one number.
-// Relies on the codec for a figure's bits; every exported call relies on it.
+// Relies on the codec for a figure's bits; the calls for C rely on it.
 ghost use mathlib.Core.Path.{_≡_};
 ghost use Rattle.model.specs.Told.{told, verdict};
-ghost use Rattle.capi.specs.Packing.{bits, packed, packVerdict, packStep};
+ghost use Rattle.packing.specs.Packing.{bits, packed, packVerdict, packStep};
 use codec::figures::figure_bytes;
 use codec::figures::word_at;
 use model::StepAnswer;

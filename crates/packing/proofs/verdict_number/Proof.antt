@@ -1,9 +1,9 @@
--- `packing::verdict_number` meets its contract: 0, or the refusal's number.
+-- `verdict_number` meets its contract: 0, or the refusal's number.
 -- Relies on the laws of the packing.
 use borrow.Author.Needs.{needs}
-use Rattle.capi.proofs.Laws.Packing.{accepted-is, refused-is}
-use Rattle.capi.proofs.packing.verdict_number.Statement.{statement}
-use Rattle.capi.proofs.packing.verdict_number.Tie as tie
+use Rattle.packing.proofs.Laws.Packing.{accepted-is, refused-is}
+use Rattle.packing.proofs.verdict_number.Statement.{statement}
+use Rattle.packing.proofs.verdict_number.Tie as tie
 
 enum-told : tie.Need-enum-told
 enum-told c = search needs

@@ -1,10 +1,10 @@
--- `packing::step_number` meets its contract: each kind with its fields, or the refusal's number.
+-- `step_number` meets its contract: each kind with its fields, or the refusal's number.
 -- Relies on the laws of the packing.
 use borrow.Author.Needs.{needs}
 use mir.Facts.{toZ-ofZ}
-use Rattle.capi.proofs.Laws.Packing.{wrote-is, read-is, went-is, marked-is, adopted-is, decided-is, spent-is, turned-is}
-use Rattle.capi.proofs.packing.step_number.Statement.{statement}
-use Rattle.capi.proofs.packing.step_number.Tie as tie
+use Rattle.packing.proofs.Laws.Packing.{wrote-is, read-is, went-is, marked-is, adopted-is, decided-is, spent-is, turned-is}
+use Rattle.packing.proofs.step_number.Statement.{statement}
+use Rattle.packing.proofs.step_number.Tie as tie
 
 enum-told : tie.Need-enum-told
 enum-told c = search needs

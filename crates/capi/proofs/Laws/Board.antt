@@ -1,0 +1,66 @@
+-- The calls on a lent board: a call's own promise, with its answer packed.
+-- Relies on the packing's definitions and on the model's runs; the proofs of `board` rely on it.
+use mathlib.Core.Path.{_≡_, sym, ap, _∙_}
+use mathlib.Core.List.{List}
+use mathlib.Core.Option.{none}
+use Prim.Native.Nat.{ℕ, _+_, _*_, _≤_, _<_}
+use native.Mathlib.Omega.{arith}
+use lib.Dec.{leb, leb→le}
+use lib.ListN.{length}
+use Rattle.model.specs.declared.StepAnswer.the-variants.{Refused}
+use Rattle.model.specs.declared.Verdict.{Verdict}
+use Rattle.model.specs.declared.RunVerdict.{RunVerdict}
+use Rattle.model.specs.declared.RunVerdict.the-variants as runs
+use Rattle.model.specs.Figure.{Figure}
+use Rattle.model.specs.Calls.{After, Refusal, RunAnswer, ran, notRun, unless, boardRefusal, ranFrom, step, run, propose}
+use Rattle.model.specs.Told.{verdict, runTold}
+use Rattle.model.proofs.Calls.Refusals.{call-case, unless-none}
+use Rattle.model.proofs.Calls.Runs.{taken, passed, answers, ran-is, ran-both}
+use Rattle.packing.specs.Packing.{packVerdict, packRun}
+
+-- ---- verdicts
+
+-- the call's verdict, packed, beside the bytes that it left
+pub packs : (r : ℕ) (v : Verdict) (a : Refusal) (d e : List ℕ) → r ≡ packVerdict (verdict v) → (verdict v ≡ a) × (d ≡ e) → (r ≡ packVerdict a) × (d ≡ e)
+packs r v a d e h answered = (h ∙ ap packVerdict (answered .0), answered .1)
+
+-- the figure as it was passed on
+pub proposes : (i : ℕ) (v z : Figure) (b : List ℕ) (r : ℕ) (w : Verdict) (d : List ℕ) → z ≡ v → r ≡ packVerdict (verdict w)
+    → (verdict w ≡ propose i z b .answer) × (d ≡ propose i z b .bytes) → (r ≡ packVerdict (propose i v b .answer)) × (d ≡ propose i v b .bytes)
+proposes i v z b r w d e h answered = (
+  h ∙ ap packVerdict (answered .0 ∙ ap (λ (x : Figure). propose i x b .answer) e),
+  answered .1 ∙ ap (λ (x : Figure). propose i x b .bytes) e,
+)
+
+-- ---- runs
+
+-- "6. The items expand to more than 65,536 steps.": the counts of a run that ran stay below
+few : (is b : List ℕ) (s t : ℕ) → run is b .answer ≡ ran s t → s + t ≤ 65536
+unfolding run
+few is b s t =
+    call-case (λ (a : After RunAnswer). a .answer ≡ ran s t → s + t ≤ 65536) (unless (leb (length is) 65536) 6 (boardRefusal b none)) notRun b (ranFrom step 0 0 is b)
+    counted (λ k e f. absurd (let z : _≡_ {A = ℕ} 0 1 = cc in omega arith))
+  where
+    counted : unless (leb (length is) 65536) 6 (boardRefusal b none) ≡ none → ranFrom step 0 0 is b .answer ≡ ran s t → s + t ≤ 65536
+    counted e f =
+        let g : ran (0 + taken (answers step b is)) (0 + passed (answers step b is)) ≡ ran s t = sym (ap (λ (a : After RunAnswer). a .answer) (ran-is step 0 0 is b)) ∙ f in
+        let p : 0 + taken (answers step b is) ≡ s = cc in
+        let q : 0 + passed (answers step b is) ≡ t = cc in
+        omega (arith, ran-both step b is, leb→le (length is) 65536 (unless-none (leb (length is) 65536) 6 (boardRefusal b none) e .0))
+
+module _ (is b : List ℕ) (w : RunVerdict) (d : List ℕ) (answered : (runTold w ≡ run is b .answer) × (d ≡ run is b .bytes)) where
+  pub run-refused : (k : ℕ) → w ≡ runs.Refused k → (k ≡ packRun (run is b .answer)) × (d ≡ run is b .bytes)
+  unfolding packRun runTold
+  run-refused k e = (ap packRun (sym (ap runTold e) ∙ answered .0), answered .1)
+
+  module _ (s t : ℕ) (e : w ≡ runs.Ran s t) where
+    its-counts : run is b .answer ≡ ran s t
+    unfolding runTold
+    its-counts = sym (answered .0) ∙ ap runTold e
+
+    pub counts-fit : s * 256 + t * 4294967296 < 18446744073709551616
+    counts-fit = omega (arith, few is b s t its-counts)
+
+    pub run-counts : (s * 256 + t * 4294967296 ≡ packRun (run is b .answer)) × (d ≡ run is b .bytes)
+    unfolding packRun
+    run-counts = (ap packRun (sym its-counts), answered .1)

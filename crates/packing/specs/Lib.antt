@@ -1,0 +1,2 @@
+-- What an answer is as one number.
+pub mod Packing
