@@ -1,3 +1,2 @@
--- What the inner functions of the calls promise; the public calls cite the model's definitions.
-pub mod Stepped
+-- What the inner functions of `show` promise; the public calls cite the model's definitions.
 pub mod Showing

@@ -7,6 +7,7 @@ ghost use lib.ListN.{length, replicate};
 ghost use Rattle.model.specs.Layout.{freshBoard};
 ghost use Rattle.model.specs.Calls.{lay};
 ghost use Rattle.model.specs.Told.{verdict};
+use codec::places::board_length;
 use model::Verdict;
 
 // Zero in every byte.
@@ -39,7 +40,7 @@ pub fn lay(board: &mut [u8], n: u8, k: u8) -> Verdict
     if 64 < k {
         return Verdict::Refused { number: 9 };
     }
-    if board.len() != super::places::board_length(n as usize, k as usize) {
+    if board.len() != board_length(n as usize, k as usize) {
         return Verdict::Refused { number: 10 };
     }
     clear(board);

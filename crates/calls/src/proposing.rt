@@ -6,7 +6,7 @@ ghost use Rattle.model.specs.Listing.{proposed};
 ghost use Rattle.model.specs.Layout.{recordFields};
 ghost use Rattle.model.specs.Calls.{boardRefusal, propose};
 ghost use Rattle.model.specs.Told.{verdict};
-use crate::places::record_offset;
+use codec::places::record_offset;
 use codec::records::put_record;
 use codec::records::record_at;
 use model::Record;

@@ -7,7 +7,7 @@ ghost use Rattle.model.specs.Calls.{boardRefusal};
 ghost use Rattle.model.specs.Show.{shownLine, shownAs, show};
 ghost use Rattle.model.specs.Told.{shownTold};
 ghost use Rattle.calls.specs.Showing.{Opened};
-use crate::places::record_offset;
+use codec::places::record_offset;
 use codec::records::record_at;
 use model::ShownLine;
 use model::Verdict;

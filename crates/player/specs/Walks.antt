@@ -11,7 +11,7 @@ use Rattle.model.specs.Told.{runTold}
 use Rattle.model.specs.Forms.{Items, Read, found, expandItem, expand, itemIn, itemsIn, steps, reads, readLine}
 use Rattle.sheet.specs.declared.form.LineForm.the-variants.{Steps}
 use Rattle.sheet.specs.Lines.{lineForm}
-use Rattle.calls.specs.Stepped.{RunsOn}
+use Rattle.stepping.specs.Stepped.{RunsOn}
 use Rattle.player.specs.declared.walk.Walked.{Walked}
 
 -- what a walk over the steps `is` of a part of a line leaves: it started at `at` with the board b, and `rest` follows

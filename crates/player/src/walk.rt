@@ -5,14 +5,14 @@ ghost use mathlib.Core.Path.{_≡_};
 ghost use mathlib.Core.Option.{none};
 ghost use Rattle.model.specs.Calls.{boardRefusal};
 ghost use Rattle.player.specs.Walks.{ItemReads, ItemsRead, ItemWalks, ItemsWalk, LineCounts, RunsLine};
-use calls::running::taken;
-use calls::sound_step::step_on;
 use model::RunVerdict;
 use model::Verdict;
 use sheet::item::times;
 use sheet::number::FoundNumber;
 use sheet::number::number;
 use soundness::board::check_board;
+use stepping::running::taken;
+use stepping::sound_step::step_on;
 
 // The steps taken, and the place after the items.
 pub struct Walked {

@@ -1,10 +1,3 @@
--- The laws by what they are about, from tests to the whole board.
-pub mod Chains
-pub mod Zeros
-pub mod Loops
+-- The laws by what they are about.
 pub mod Rows
-pub mod Clauses
-pub mod Held
-pub mod Own
-pub mod Records
 pub mod Verdicts

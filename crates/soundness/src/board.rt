@@ -9,11 +9,11 @@ ghost use Rattle.model.specs.Sound.{headSound};
 ghost use Rattle.model.specs.Sound as Model;
 ghost use Rattle.model.specs.Calls.{boardRefusal};
 ghost use Rattle.model.specs.Told.{verdict};
-use crate::records::records_sound;
 use crate::registers::registers_sound;
-use crate::zeros::zero_pair;
-use crate::zeros::zero_word;
 use model::Verdict;
+use record_soundness::records::records_sound;
+use record_soundness::zeros::zero_pair;
+use record_soundness::zeros::zero_word;
 
 fn head_sound(s: &[u8]) -> bool
     requires { ⌜ 8 ≤ length (now s) ⌝ }

@@ -8,8 +8,8 @@ ghost use Rattle.model.specs.Bytes.{part, every};
 ghost use Rattle.model.specs.Listing.{inA, inB};
 ghost use Rattle.model.specs.Layout.{boardLength};
 ghost use Rattle.model.specs.Sound.{registerSound, arraySound, registersSound};
-use crate::zeros::zero_pair;
-use crate::zeros::zero_word;
+use record_soundness::zeros::zero_pair;
+use record_soundness::zeros::zero_word;
 
 // Most registers of a board are empty: two words decide those.
 pub fn register_sound(s: &[u8], at: usize, marks: u8, islands: u8) -> bool

@@ -15,7 +15,7 @@ use Rattle.model.specs.Layout.{recordAt, readRecord, layRecord, recordFields, w
 use Rattle.model.specs.Calls.{After, Refusal, stations, islands, boardRefusal, stationRefusal, stationAt, unlessRefused, putStation, notIdle, propose}
 use Rattle.model.specs.Told.{verdict}
 use Rattle.model.proofs.Calls.Refusals.{board-of, board-passes, board-first, OnBoard, station-passes, station-12-low, station-12-high}
-use Rattle.calls.proofs.Laws.Checking.{turned}
+use Rattle.stepping.proofs.Laws.Checking.{turned}
 
 abbrev done : (i : ℕ) (v : Figure) (b : List ℕ) → After Refusal
 done i v b = record { answer = none; bytes = putStation (stations b) (islands b) (i - 1) (proposed v) b }

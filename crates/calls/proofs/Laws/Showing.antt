@@ -26,8 +26,8 @@ use Rattle.shown.specs.Texts.{statusOf, islandShown}
 use Rattle.shown.proofs.Bounds.{status-bound, good-island, statuses-more, statuses-bound, line-bound, shown-is}
 use Rattle.calls.specs.Showing.{openTo, Opened}
 use Rattle.model.proofs.Board.Places.{record-inside}
-use Rattle.calls.proofs.Laws.Checking.{turned}
-use Rattle.calls.proofs.Laws.Stepping.{head}
+use Rattle.stepping.proofs.Laws.Checking.{turned}
+use Rattle.stepping.proofs.Laws.Stepping.{head}
 
 module _ (b : List ℕ) (sound : boardRefusal b none ≡ none) where
   h : Board b

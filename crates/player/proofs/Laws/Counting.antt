@@ -17,8 +17,8 @@ use Rattle.model.proofs.Sheet.Written.{written, writtenItems, InRange, items-re
 use Rattle.model.proofs.Sheet.WrittenBack.{LineStood, line-stood}
 use Rattle.sheet.specs.declared.form.LineForm.the-variants.{Steps}
 use Rattle.sheet.specs.Lines.{lineForm}
-use Rattle.calls.specs.Stepped.{RunsOn}
-use Rattle.calls.proofs.Laws.Running.{runs-below, too-many, board-refuses, ran-through}
+use Rattle.stepping.specs.Stepped.{RunsOn}
+use Rattle.stepping.proofs.Laws.Running.{runs-below, too-many, board-refuses, ran-through}
 use Rattle.player.specs.declared.walk.Walked.{Walked}
 use Rattle.player.specs.Walks.{Walks, ItemsRead, ItemsWalk, LineCounts, RunsLine}
 use Rattle.player.proofs.Laws.Reading.{read-steps}

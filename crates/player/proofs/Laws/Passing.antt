@@ -12,9 +12,9 @@ use borrow.Author.Tests.{ne-eqb}
 use Rattle.model.specs.Calls.{boardRefusal}
 use Rattle.model.specs.Forms.{Item, Items, done, next, expandItem, expand, found, andThen, spaced, itemIn, itemsIn}
 use Rattle.sheet.proofs.Laws.Places.{first-byte, behind-first}
-use Rattle.calls.specs.Stepped.{RunsOn}
-use Rattle.calls.proofs.Laws.Running.{runs-below}
-use Rattle.calls.proofs.Laws.Joined.{runs-none, runs-then, runs-sound, runs-length}
+use Rattle.stepping.specs.Stepped.{RunsOn}
+use Rattle.stepping.proofs.Laws.Running.{runs-below}
+use Rattle.stepping.proofs.Laws.Joined.{runs-none, runs-then, runs-sound, runs-length}
 use Rattle.player.specs.declared.walk.Walked.{Walked}
 use Rattle.player.specs.Walks.{Walk, Walks, ItemReads, ItemsRead, ItemWalks, ItemsWalk}
 use Rattle.player.proofs.Laws.Fuel.{agree}

@@ -19,9 +19,9 @@ use Rattle.sheet.specs.declared.number.FoundNumber.{FoundNumber}
 use Rattle.sheet.specs.declared.number.FoundNumber.the-variants.{At, Missing}
 use Rattle.sheet.specs.Placed.{numberAt, NumberIs, TimesIs}
 use Rattle.sheet.proofs.Laws.Items.{as-number, as-times}
-use Rattle.calls.specs.Stepped.{StepsOn, RunsOn, counts}
-use Rattle.calls.proofs.Laws.Running.{runs-below}
-use Rattle.calls.proofs.Laws.Joined.{runs-none, runs-one, runs-then, runs-sound, runs-length}
+use Rattle.stepping.specs.Stepped.{StepsOn, RunsOn, counts}
+use Rattle.stepping.proofs.Laws.Running.{runs-below}
+use Rattle.stepping.proofs.Laws.Joined.{runs-none, runs-one, runs-then, runs-sound, runs-length}
 use Rattle.player.specs.declared.walk.Walked.{Walked}
 use Rattle.player.specs.Walks.{Walk, Walks, ItemReads, ItemsRead, ItemWalks, ItemsWalk}
 use Rattle.player.proofs.Laws.Fuel.{agree}

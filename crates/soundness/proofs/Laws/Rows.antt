@@ -15,8 +15,8 @@ use Rattle.model.specs.Layout.{boardLength, rowOf, registerAt}
 use Rattle.model.specs.Sound.{registerSound, headSound, arraySound}
 use Rattle.model.proofs.Board.Places.{InBoard, register-fits}
 use Rattle.codec.proofs.Laws.Reads.{part-part, first-byte, byte-at}
-use Rattle.soundness.proofs.Laws.Chains.{cond-yes, cond-no}
-use Rattle.soundness.proofs.Laws.Zeros.{zeros-join}
+use Rattle.record_soundness.proofs.Laws.Chains.{cond-yes, cond-no}
+use Rattle.record_soundness.proofs.Laws.Zeros.{zeros-join}
 
 module _ (marks islands : ℕ) (b : List ℕ) (at : ℕ) (h : at + 8 ≤ length b) where
   mark : byte b at ≡ byte (part at 8 b) 0

@@ -1,4 +1,4 @@
--- `calls::laying::clear` meets its contract. The loop's invariant: the first i bytes are zero, the others as they were.
+-- `laying::clear` meets its contract. The loop's invariant: the first i bytes are zero, the others as they were.
 -- Assumes nothing.
 use mathlib.Core.Path.{_≡_, refl, ap, _∙_}
 use mathlib.Core.List.{List, _++_, append-nil}

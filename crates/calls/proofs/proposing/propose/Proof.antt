@@ -1,7 +1,7 @@
 -- `proposing::propose` meets its contract: the board's own refusals come first, then the proposal on a sound board.
 use borrow.Author.Needs.{needs}
 use mir.Facts.{toZ-ofZ}
-use Rattle.calls.proofs.Laws.Checking.{passed}
+use Rattle.stepping.proofs.Laws.Checking.{passed}
 use Rattle.calls.proofs.Laws.Proposing.{board-refuses, same-figure}
 use Rattle.calls.proofs.proposing.propose.Statement.{statement}
 use Rattle.calls.proofs.proposing.propose.Tie as tie

@@ -7,7 +7,7 @@ use mir.Facts.{toZ-ofZ}
 use Rattle.model.specs.Figure.{Figure}
 use Rattle.model.specs.Listing.{proposed}
 use Rattle.model.specs.Layout.{recordFields}
-use Rattle.calls.proofs.Laws.Stepping.{head, own-record, record-on}
+use Rattle.stepping.proofs.Laws.Stepping.{head, own-record, record-on}
 use Rattle.calls.proofs.Laws.Proposing.{twelve-low, twelve-high, thirteen, taken}
 use Rattle.calls.proofs.proposing.propose_on.Statement.{statement}
 use Rattle.calls.proofs.proposing.propose_on.Tie as tie

@@ -1,7 +1,7 @@
 -- `showing::show` meets its contract: the board's own refusals come first, then the line of a sound board.
 use borrow.Author.Needs.{needs}
 use mathlib.Core.Path.{_∙_}
-use Rattle.calls.proofs.Laws.Checking.{passed}
+use Rattle.stepping.proofs.Laws.Checking.{passed}
 use Rattle.calls.proofs.Laws.Showing.{shows, refused-shown}
 use Rattle.calls.proofs.showing.show.Statement.{statement}
 use Rattle.calls.proofs.showing.show.Tie as tie

@@ -4,7 +4,7 @@ use Prim.Native.Nat.{_≤_, _-_}
 use native.Mathlib.Omega.{arith}
 use Rattle.shown.specs.Puts.{Holds}
 use Rattle.calls.specs.Showing.{openTo}
-use Rattle.calls.proofs.Laws.Stepping.{head}
+use Rattle.stepping.proofs.Laws.Stepping.{head}
 use Rattle.calls.proofs.Laws.Showing.{fits-one, one-more, begins, all-open, value-at, record-inside-at}
 use Rattle.calls.proofs.showing.stations_of.Statement.{statement}
 use Rattle.calls.proofs.showing.stations_of.Tie as tie

@@ -16,8 +16,8 @@ use Rattle.player.proofs.walk.+run_item+run_items.Lts-run_item as run-i
 use Rattle.player.proofs.walk.run_items.Reads as run-items
 use Rattle.player.proofs.walk.run_items.Kinds as run-items-kinds
 use Rattle.player.proofs.walk.+run_item+run_items.Lts-run_items as run-items-lts
-use Rattle.calls.proofs.running.taken.Reads as taken-reads
-use Rattle.calls.proofs.sound_step.step_on.Reads as step-on-reads
+use Rattle.stepping.proofs.running.taken.Reads as taken-reads
+use Rattle.stepping.proofs.sound_step.step_on.Reads as step-on-reads
 use Rattle.sheet.proofs.item.times.Reads as times-reads
 use Rattle.sheet.proofs.number.number.Reads as number-reads
 use Rattle.player.proofs.walk.+run_item+run_items.{statement}

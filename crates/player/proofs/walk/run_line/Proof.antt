@@ -1,6 +1,6 @@
 -- `walk::run_line` meets its contract: 6, then the board's own refusals, then the walk over the items on a sound board.
 use native.Mathlib.Omega.{arith}
-use Rattle.calls.proofs.Laws.Checking.{passed}
+use Rattle.stepping.proofs.Laws.Checking.{passed}
 use Rattle.player.proofs.Laws.Counting.{line-too-many, line-reads, taken-below, line-refused, line-ran}
 use borrow.Author.Needs.{needs}
 use Rattle.player.proofs.walk.run_line.Statement.{statement}

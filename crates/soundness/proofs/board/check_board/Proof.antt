@@ -3,7 +3,7 @@ use borrow.Author.Needs.{needs}
 use native.Mathlib.Omega.{arith}
 use Rattle.model.specs.Bytes.{byte}
 use Rattle.model.specs.Told.{verdict}
-use Rattle.soundness.proofs.Laws.Chains.{no, yes}
+use Rattle.record_soundness.proofs.Laws.Chains.{no, yes}
 use Rattle.soundness.proofs.Laws.Verdicts.{refused7, refused8-low, refused8-high, refused9-low, refused9-high, refused10, refused11, accepted, product-small, length-is}
 use Rattle.soundness.proofs.board.check_board.Statement.{statement}
 use Rattle.soundness.proofs.board.check_board.Tie as tie

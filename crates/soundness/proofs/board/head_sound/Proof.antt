@@ -2,7 +2,7 @@
 use borrow.Author.Needs.{needs}
 use mathlib.Core.Bool.{true}
 use mathlib.Core.Path.{_∙_, refl}
-use Rattle.soundness.proofs.Laws.Chains.{no, yes, fail4, pass}
+use Rattle.record_soundness.proofs.Laws.Chains.{no, yes, fail4, pass}
 use Rattle.soundness.proofs.Laws.Rows.{head-form}
 use Rattle.soundness.proofs.board.head_sound.Statement.{statement}
 use Rattle.soundness.proofs.board.head_sound.Tie as tie

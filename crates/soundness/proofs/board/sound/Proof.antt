@@ -3,7 +3,7 @@ use borrow.Author.Needs.{needs}
 use mathlib.Core.Bool.{true}
 use mathlib.Core.Path.{_∙_, refl}
 use Rattle.model.specs.Sound as model
-use Rattle.soundness.proofs.Laws.Chains.{no, yes, fail3, fail4, pass}
+use Rattle.record_soundness.proofs.Laws.Chains.{no, yes, fail3, fail4, pass}
 use Rattle.soundness.proofs.Laws.Verdicts.{long-enough}
 use Rattle.soundness.proofs.board.sound.Statement.{statement}
 use Rattle.soundness.proofs.board.sound.Tie as tie

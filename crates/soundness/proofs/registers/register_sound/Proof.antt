@@ -3,7 +3,7 @@ use borrow.Author.Needs.{needs}
 use borrow.Author.Tests.{lt-ltb, le-ltb, le-leb, lt-leb}
 use mathlib.Core.Bool.{true}
 use mathlib.Core.Path.{_∙_, refl}
-use Rattle.soundness.proofs.Laws.Chains.{no, yes, fail3, fail4, pass}
+use Rattle.record_soundness.proofs.Laws.Chains.{no, yes, fail3, fail4, pass}
 use Rattle.soundness.proofs.Laws.Rows.{register-empty, register-filled}
 use Rattle.soundness.proofs.registers.register_sound.Statement.{statement}
 use Rattle.soundness.proofs.registers.register_sound.Tie as tie

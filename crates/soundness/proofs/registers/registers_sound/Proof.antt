@@ -3,7 +3,7 @@ use borrow.Author.Needs.{needs}
 use mathlib.Core.Bool.{true}
 use mathlib.Core.Path.{_∙_, refl}
 use Rattle.model.specs.Sound.{registersSound}
-use Rattle.soundness.proofs.Laws.Chains.{no, yes, fail4, pass}
+use Rattle.record_soundness.proofs.Laws.Chains.{no, yes, fail4, pass}
 use Rattle.soundness.proofs.Laws.Rows.{array-m, m-inside}
 use Rattle.soundness.proofs.registers.registers_sound.Statement.{statement}
 use Rattle.soundness.proofs.registers.registers_sound.Tie as tie

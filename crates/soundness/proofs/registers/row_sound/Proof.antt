@@ -6,8 +6,8 @@ use mathlib.Core.Path.{_≡_}
 use native.Mathlib.Omega.{arith}
 use Rattle.model.specs.Bytes.{every, part}
 use Rattle.model.specs.Sound.{registerSound}
-use Rattle.soundness.proofs.Laws.Chains.{no, yes}
-use Rattle.soundness.proofs.Laws.Loops.{every-none, every-more, every-end, every-fails}
+use Rattle.record_soundness.proofs.Laws.Chains.{no, yes}
+use Rattle.record_soundness.proofs.Laws.Loops.{every-none, every-more, every-end, every-fails}
 use Rattle.soundness.proofs.registers.row_sound.Statement.{statement}
 use Rattle.soundness.proofs.registers.row_sound.Tie as tie
 

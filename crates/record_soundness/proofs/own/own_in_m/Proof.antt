@@ -1,0 +1,62 @@
+-- `own_in_m`: the register first, then what the collect has seen, as a pair.
+use borrow.Author.Needs.{needs, sfits-of}
+use mathlib.Core.Bool.{true}
+use mathlib.Core.Path.{_∙_, refl, _≡_}
+use Rattle.model.specs.Layout.{readingOf}
+use Rattle.model.specs.Listing.{turnM}
+use Rattle.model.specs.Sound.{ownWritten}
+use Rattle.record_soundness.proofs.Laws.Chains.{no, yes, fail4, pass}
+use Rattle.record_soundness.proofs.Laws.Held.{written-m}
+use Rattle.record_soundness.proofs.Laws.Own.{before-own, nothing-seen, island-lower, island-higher, island-same}
+use Rattle.record_soundness.proofs.own.own_in_m.Statement.{statement}
+use Rattle.record_soundness.proofs.own.own_in_m.Tie as tie
+
+abbrev start : tie.After-held → tie.Start
+start c = c .before .before .before .before
+
+-- the first test is the clause on the own register
+own-register : (c : tie.After-held) → c .held .result ≡ ownWritten (start c .args .n) (start c .args .i) (start c .args .s .now) (readingOf turnM (start c .args .f))
+own-register c =
+    written-m _ _ _ (start c .args .f) _ _ (sfits-of (c .before .struct-told .given .1 .1 .1 .1 .1 .1 .1 .0 .1))
+    (c .before .before .column .ensures) (c .held .ensures)
+
+column-requires : tie.Need-column-requires
+column-requires c κs = search needs
+
+held-requires : tie.Need-held-requires
+held-requires c κs = search needs
+
+returns : tie.Need-returns
+returns c = fail4 true true true _ _ refl refl refl (no _ _ (own-register (c .before)) (c .if1 .taken))
+
+cast-position : tie.Need-cast-position
+cast-position c = search needs
+
+returns-2 : tie.Need-returns-2
+returns-2 c = before-own _ _ _ (c .if2 .taken) ∙ pass true true true _ _ refl refl refl (yes _ _ (own-register (c .before .before .before)) (c .before .before .if1 .left))
+
+returns-3 : tie.Need-returns-3
+returns-3 c = nothing-seen _ _ _ (c .before .before .if2 .left) (c .if3 .taken) ∙ pass true true true _ _ refl refl refl (yes _ _ (own-register (c .before .before .before .before .before)) (c .before .before .before .before .if1 .left))
+
+returns-4 : tie.Need-returns-4
+returns-4 c = island-lower _ _ (c .before .before .before .before .if2 .left) (c .before .before .if3 .left) (c .if4 .taken) ∙ pass true true true _ _ refl refl refl (yes _ _ (own-register (c .before .before .before .before .before .before .before)) (c .before .before .before .before .before .before .if1 .left))
+
+returns-5 : tie.Need-returns-5
+returns-5 c = island-higher _ _ (c .before .before .before .before .before .before .if2 .left) (c .before .before .before .before .if3 .left) (c .if5 .taken) ∙ pass true true true _ _ refl refl refl (yes _ _ (own-register (c .before .before .before .before .before .before .before .before .before)) (c .before .before .before .before .before .before .before .before .if1 .left))
+
+returns-6 : tie.Need-returns-6
+returns-6 c = island-same _ _ (c .before .before .before .before .before .before .before .before .if2 .left) (c .before .before .before .before .before .before .if3 .left) (c .before .before .before .before .if4 .left) (c .before .before .if5 .left) (search needs) (search needs) ∙ pass true true true _ _ refl refl refl (yes _ _ (own-register (c .before .before .before .before .before .before .before .before .before .before .before)) (c .before .before .before .before .before .before .before .before .before .before .if1 .left))
+
+pub own-in-m-spec : {M : Type 1} → statement M
+own-in-m-spec =
+    tie.close
+    (tie.spec
+    column-requires
+    held-requires
+    returns
+    cast-position
+    returns-2
+    returns-3
+    returns-4
+    returns-5
+    returns-6)

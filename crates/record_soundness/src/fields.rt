@@ -1,0 +1,181 @@
+// A record's fields as numbers, clause by clause in the order of model/specs/Sound.antt. Each clause is stated of the bytes
+// that the layout gives the fields; that the other bytes are zero is tested where the bytes are read, in records.
+// Relies on the layout; records rely on it.
+ghost use mathlib.Core.Path.{_≡_};
+ghost use mathlib.Core.Bool.{_||_};
+ghost use mathlib.Core.List.{[], _∷_};
+ghost use lib.Dec.{eqb};
+ghost use Rattle.model.specs.Bytes.{zeros};
+ghost use Rattle.model.specs.Layout.{layRecord};
+ghost use Rattle.model.specs.Sound.{flagKnown, idleZero, collecting, collectZero, bestIslandZero, bestZero, seenKnown, fieldsSound};
+ghost use Rattle.record_soundness.specs.Groups.{laid, boundsKept, alwaysKept};
+use model::Record;
+
+fn bounds_sound(f: Record, n: usize, k: usize) -> bool
+    ensures { λ r. ⌜ r ≡ boundsKept n k f ⌝ }
+{
+    if 8 < f.phase {
+        return false;
+    }
+    let position = f.position as usize;
+    if n <= position {
+        return false;
+    }
+    let island = f.island as usize;
+    if k <= island {
+        return false;
+    }
+    let highest = f.highest as usize;
+    highest < k
+}
+
+fn one_or_two(x: u8) -> bool
+    ensures { λ r. ⌜ r ≡ eqb x 1 || eqb x 2 ⌝ }
+{
+    if x == 1 {
+        return true;
+    }
+    x == 2
+}
+
+fn flag_sound(f: Record) -> bool
+    ensures { λ r. ⌜ r ≡ laid flagKnown f ⌝ }
+{
+    if f.phase == 5 {
+        return one_or_two(f.flag);
+    }
+    if f.phase == 6 {
+        return one_or_two(f.flag);
+    }
+    f.flag == 0
+}
+
+fn bytes_zero(f: Record) -> bool
+    ensures { λ r. ⌜ r ≡ zeros (f .phase ∷ f .position ∷ f .island ∷ f .seen ∷ f .highest ∷ f .flag ∷ []) ⌝ }
+{
+    if f.phase != 0 {
+        return false;
+    }
+    if f.position != 0 {
+        return false;
+    }
+    if f.island != 0 {
+        return false;
+    }
+    if f.seen != 0 {
+        return false;
+    }
+    if f.highest != 0 {
+        return false;
+    }
+    f.flag == 0
+}
+
+fn idle_sound(f: Record) -> bool
+    ensures { λ r. ⌜ r ≡ laid idleZero f ⌝ }
+{
+    if f.phase != 0 {
+        return true;
+    }
+    if !bytes_zero(f) {
+        return false;
+    }
+    if f.proposal != 0 {
+        return false;
+    }
+    if f.carried != 0 {
+        return false;
+    }
+    f.best == 0
+}
+
+fn is_collecting(f: Record) -> bool
+    ensures { λ r. ⌜ r ≡ laid collecting f ⌝ }
+{
+    if f.phase == 2 {
+        return true;
+    }
+    if f.phase == 4 {
+        return true;
+    }
+    f.phase == 6
+}
+
+fn collect_zero(f: Record) -> bool
+    ensures { λ r. ⌜ r ≡ laid collectZero f ⌝ }
+{
+    if is_collecting(f) {
+        return true;
+    }
+    if f.position != 0 {
+        return false;
+    }
+    if f.seen != 0 {
+        return false;
+    }
+    f.best == 0
+}
+
+fn best_island_zero(f: Record) -> bool
+    ensures { λ r. ⌜ r ≡ laid bestIslandZero f ⌝ }
+{
+    if f.phase == 2 {
+        return true;
+    }
+    f.highest == 0
+}
+
+fn best_zero(f: Record) -> bool
+    ensures { λ r. ⌜ r ≡ laid bestZero f ⌝ }
+{
+    if f.seen != 0 {
+        return true;
+    }
+    if f.highest != 0 {
+        return false;
+    }
+    f.best == 0
+}
+
+fn seen_known(f: Record) -> bool
+    ensures { λ r. ⌜ r ≡ laid seenKnown f ⌝ }
+{
+    if f.phase == 2 {
+        return f.seen <= 1;
+    }
+    if f.phase == 4 {
+        return f.seen <= 2;
+    }
+    f.seen <= 3
+}
+
+// The clauses on what a record holds whether it collects or not.
+fn always_sound(f: Record, n: usize, k: usize) -> bool
+    ensures { λ r. ⌜ r ≡ alwaysKept n k f ⌝ }
+{
+    if !bounds_sound(f, n, k) {
+        return false;
+    }
+    if !flag_sound(f) {
+        return false;
+    }
+    idle_sound(f)
+}
+
+pub fn fields_sound(f: Record, n: usize, k: usize) -> bool
+    ensures { λ r. ⌜ r ≡ fieldsSound n k (f .phase) (layRecord f) ⌝ }
+{
+    if !always_sound(f, n, k) {
+        return false;
+    }
+    if !collect_zero(f) {
+        return false;
+    }
+    if !best_island_zero(f) {
+        return false;
+    }
+    if !best_zero(f) {
+        return false;
+    }
+    seen_known(f)
+}

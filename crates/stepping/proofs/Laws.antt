@@ -1,0 +1,7 @@
+-- Laws over plain variables, one subject a file.
+pub mod Touching
+pub mod Accessing
+pub mod Stepping
+pub mod Checking
+pub mod Running
+pub mod Joined

@@ -1,0 +1,113 @@
+-- An accepted step: where it reads and writes lies on the board, and what is put back is what the model's access puts.
+-- Relies on Touching, on the promise of `advance` and on the model's access; the proof of `access` relies on it.
+use mathlib.Core.Path.{_≡_, refl, sym, ap, _∙_, subst}
+use mathlib.Core.Bool.{true, false}
+use mathlib.Core.List.{List}
+use mathlib.Core.Option.{Option}
+use Prim.Native.Nat.{ℕ, zero, suc, _+_, _≤_, _<_}
+use native.Mathlib.Omega.{arith}
+use lib.ListN.{length}
+use Rattle.model.specs.declared.Record.{Record}
+use Rattle.model.specs.declared.Register as Fields
+use Rattle.model.specs.Bytes.{part, splice, digits}
+use Rattle.model.specs.Figure.{Figure, figures, figureBytes}
+use Rattle.model.specs.Listing.{Turn, turnM, turnA, turnB, Register, Stage, writing, reading, has-decided, is-spent, active, move, placeArray, placeColumn}
+use Rattle.model.specs.Layout.{registerAt, recordAt, readRegister, layRegister, registerValue, layRecord, recordValue, writingOf, readingOf, ofPhase, registerOf}
+use Rattle.model.specs.Calls.{putStation, access}
+use Rattle.model.proofs.Board.Codec.{register}
+use Rattle.model.proofs.Basics.Tests.{clash}
+use Rattle.model.proofs.Basics.Splices.{length-splice}
+use Rattle.model.proofs.Board.Places.{InBoard, register-fits, record-inside}
+use Rattle.model.proofs.Board.Values.{array-inside}
+use Rattle.model.proofs.Listing.Going.{Going}
+use Rattle.model.proofs.Listing.Written.{read-writes}
+use Rattle.archipelago.specs.declared.Moved.{Moved}
+use Rattle.archipelago.specs.Advanced.{Ready, Written, Advanced, Moves}
+use Rattle.archipelago.proofs.Ready.{put-written, put-nothing}
+use Rattle.stepping.specs.Stepped.{Touches, Accesses, OnSize}
+
+-- the stage that a ready record stands for, and its place on the board
+pub record Standing (n K j : ℕ) (f : Record) : Type 0 where
+  pub stage : Stage Figure
+  pub stands : recordValue f ≡ active (f .proposal) stage
+  pub goes : Going stage
+  pub inside : InBoard K (placeArray stage)
+  pub column : placeColumn j stage < n
+
+module _ (n K j : ℕ) (f : Record) (h : Ready n K f) (own : j < n) where
+  write-stands : (t : Turn) → recordValue f ≡ writingOf t f → Standing n K j f
+  unfolding writingOf placeArray placeColumn
+  write-stands t e = record { stage = writing t (f .island) (f .carried); stands = e; goes = tt; inside = array-inside K t (f .island) (h .island); column = own }
+
+  read-stands : (t : Turn) → recordValue f ≡ readingOf t f → Standing n K j f
+  unfolding readingOf placeArray placeColumn
+  read-stands t e = record { stage = reading t (f .island) (f .carried) (f .position) _; stands = e; goes = tt; inside = array-inside K t (f .island) (h .island); column = h .position }
+
+  by-phase : (k : ℕ) → f .phase ≡ k → Standing n K j f
+  unfolding recordValue ofPhase
+  by-phase zero e = absurd (omega (arith, h .begun))
+  by-phase (suc zero) e = write-stands turnM (ap (λ (m : ℕ). ofPhase m f) e)
+  by-phase (suc (suc zero)) e = read-stands turnM (ap (λ (m : ℕ). ofPhase m f) e)
+  by-phase (suc (suc (suc zero))) e = write-stands turnA (ap (λ (m : ℕ). ofPhase m f) e)
+  by-phase (suc (suc (suc (suc zero)))) e = read-stands turnA (ap (λ (m : ℕ). ofPhase m f) e)
+  by-phase (suc (suc (suc (suc (suc zero))))) e = write-stands (turnB _) (ap (λ (m : ℕ). ofPhase m f) e)
+  by-phase (suc (suc (suc (suc (suc (suc zero)))))) e = read-stands (turnB _) (ap (λ (m : ℕ). ofPhase m f) e)
+  by-phase (suc (suc (suc (suc (suc (suc (suc k))))))) e = absurd (omega (arith, h .going))
+
+  pub standing : Standing n K j f
+  standing = by-phase (f .phase) refl
+
+pub place-fits : (n K j : ℕ) (f : Record) (b : List ℕ) (r : ℕ) → Ready n K f → OnSize n K j b → Touches n j f r → r + 8 ≤ length b
+unfolding Touches
+place-fits n K j f b r h z t =
+    let s = standing n K j f h (z .own) in
+    omega (arith, register-fits n K (placeArray (s .stage)) (placeColumn j (s .stage)) (s .inside) (s .column), t (s .stage) (s .stands), z .len)
+
+pub record-fits : (n K j : ℕ) (b : List ℕ) (at : ℕ) → OnSize n K j b → at ≡ recordAt n K j → at + 24 ≤ length b
+record-fits n K j b at z e = omega (arith, record-inside n K j (z .own), z .len)
+
+length-put : (at : ℕ) (r : Fields.Register) (b d : List ℕ) → at + 8 ≤ length b → d ≡ splice at (layRegister r) b → length d ≡ length b
+unfolding layRegister figureBytes digits
+length-put at r b d h e = ap length e ∙ length-splice at (layRegister r) b h
+
+pub record-fits-after : (n K j : ℕ) (f : Record) (b e : List ℕ) (place at : ℕ) (r : Fields.Register) → Ready n K f → OnSize n K j b → Touches n j f place
+    → at ≡ recordAt n K j → e ≡ splice place (layRegister r) b → at + 24 ≤ length e
+record-fits-after n K j f b e place at r h z t q p =
+    omega (arith, record-fits n K j b at z q, length-put place r b e (place-fits n K j f b place h z t) p)
+
+-- ---- what is put back
+
+module _ (n K j : ℕ) (f : Record) (b : List ℕ) (place at : ℕ) (g : Fields.Register) (m : Moved)
+    (t : Touches n j f place) (eg : g ≡ readRegister (part place 8 b)) (a : Moves n K f g m) (ea : at ≡ recordAt n K j) where
+  moved : (s : Stage Figure) → recordValue f ≡ active (f .proposal) s
+      → Advanced (f .proposal) (move figures n K s (registerOf n (placeArray s) (placeColumn j s) b)) m
+  unfolding Moves Touches registerOf
+  moved s e =
+      subst (λ (r : Register Figure). Advanced (f .proposal) (move figures n K s r) m)
+      (ap registerValue eg ∙ ap (λ (k : ℕ). registerValue (readRegister (part k 8 b))) (t s e)) (a (f .proposal) s e)
+
+  -- only a write writes, and it writes the station's own register
+  own-column : (s : Stage Figure) → Written (move figures n K s (registerOf n (placeArray s) (placeColumn j s) b) .written) m → m .writes ≡ true
+      → placeColumn j s ≡ j
+  unfolding placeColumn Written
+  own-column (writing u c x) w q = refl
+  own-column (reading u c x p e) w q =
+      clash (sym q ∙ subst (λ (o : Option (Register Figure)). Written o m) (read-writes K figures n u c x p e _) w)
+  own-column (has-decided c x) w q = refl
+  own-column (is-spent c x) w q = refl
+
+  pub accessed-writing : (e d : List ℕ) → m .writes ≡ true → e ≡ splice place (layRegister (m .register)) b → d ≡ splice at (layRecord (m .station)) e
+      → Accesses n K j f b (m .answer) d
+  unfolding Accesses Touches access putStation
+  accessed-writing e d q ee ed s h =
+      let v = moved s h in
+      let col = own-column s (v .written) q in
+      let put = ee ∙ ap (λ (k : ℕ). splice k (layRegister (m .register)) b) (t s h ∙ ap (registerAt n (placeArray s)) col)
+      ∙ sym (put-written n (placeArray s) j _ b m (v .written) q) in
+      (v .answer, ed ∙ (λ i. splice (ea i) (layRecord (v .station i)) (put i)))
+
+  pub accessed-reading : (d : List ℕ) → m .writes ≡ false → d ≡ splice at (layRecord (m .station)) b → Accesses n K j f b (m .answer) d
+  unfolding Accesses Touches access putStation
+  accessed-reading d q ed s h =
+      let v = moved s h in
+      (v .answer, ed ∙ (λ i. splice (ea i) (layRecord (v .station i)) (sym (put-nothing n (placeArray s) j _ b m (v .written) q) i)))

@@ -1,0 +1,42 @@
+-- A call that tests the board first: the board's own refusals, and a board that passed.
+-- Relies on the model's calls; the proofs of the public calls rely on it.
+use mathlib.Core.Path.{_≡_, sym, ap, _∙_}
+use mathlib.Core.List.{List}
+use mathlib.Core.Option.{none, some}
+use Prim.Native.Nat.{ℕ}
+use Rattle.model.specs.declared.Verdict.{Verdict}
+use Rattle.model.specs.declared.Verdict.the-variants.{Accepted, Refused}
+use Rattle.model.specs.declared.StepAnswer.{StepAnswer}
+use Rattle.model.specs.declared.StepAnswer.the-variants as answers
+use Rattle.model.specs.Listing.{refused}
+use Rattle.model.specs.Calls.{Refusal, boardRefusal, unlessRefused, stepOn, step}
+use Rattle.model.specs.Told.{told, verdict}
+use Rattle.stepping.specs.Stepped.{StepsOn}
+
+-- what the test of a board answered, as the code then finds it
+pub passed : (b : List ℕ) (v : Verdict) → v ≡ Accepted → verdict v ≡ boardRefusal b none → boardRefusal b none ≡ none
+unfolding verdict
+passed b v e h = sym h ∙ ap verdict e
+
+pub turned : (b : List ℕ) (v : Verdict) (k : ℕ) → v ≡ Refused k → verdict v ≡ boardRefusal b none → boardRefusal b none ≡ some k
+unfolding verdict
+turned b v k e h = sym h ∙ ap verdict e
+
+-- ---- a single step
+
+pub step-turned : (i : ℕ) (b : List ℕ) (v : Verdict) (k : ℕ) → v ≡ Refused k → verdict v ≡ boardRefusal b none
+    → (told (answers.Refused k) ≡ step i b .answer) × (b ≡ step i b .bytes)
+unfolding step unlessRefused told
+step-turned i b v k e h =
+    let q = sym (turned b v k e h) in (
+      ap (λ (r : Refusal). unlessRefused r refused b (stepOn i b) .answer) q,
+      ap (λ (r : Refusal). unlessRefused r refused b (stepOn i b) .bytes) q,
+    )
+
+pub step-passed : (i : ℕ) (b : List ℕ) (r : StepAnswer) (d : List ℕ) → boardRefusal b none ≡ none → StepsOn i b r d
+    → (told r ≡ step i b .answer) × (d ≡ step i b .bytes)
+unfolding step unlessRefused StepsOn
+step-passed i b r d e s = (
+  s .0 ∙ ap (λ (q : Refusal). unlessRefused q refused b (stepOn i b) .answer) (sym e),
+  s .1 ∙ ap (λ (q : Refusal). unlessRefused q refused b (stepOn i b) .bytes) (sym e),
+)

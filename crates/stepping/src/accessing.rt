@@ -1,0 +1,57 @@
+// One step of one station: the register it touches, the listing's move, and what is put back.
+// Relies on the codec and on the listing's move; the public step and the run rely on it.
+ghost use mathlib.Core.Path.{_≡_};
+ghost use Prim.Native.Nat.{_≤_, _<_};
+ghost use Rattle.model.specs.Layout.{recordAt};
+ghost use Rattle.archipelago.specs.Advanced.{Ready};
+ghost use Rattle.stepping.specs.Stepped.{Touches, Accesses, OnSize};
+use archipelago::advance;
+use codec::places::register_offset;
+use codec::records::put_record;
+use codec::registers::put_register;
+use codec::registers::register_at;
+use model::Record;
+use model::StepAnswer;
+
+// The offset of the one register that the station with index j touches next: its own when it writes, the next position
+// when it reads.
+fn touched(n: u8, k: u8, j: usize, station: Record) -> usize
+    requires { ⌜ Ready n k station × (n ≤ 16) × (k ≤ 64) × (j < n) ⌝ }
+    ensures { λ r. ⌜ Touches n j station r ⌝ }
+{
+    let stations = n as usize;
+    let island = station.island as usize;
+    let next = station.position as usize;
+    if station.phase == 1 {
+        return register_offset(stations, 0, j);
+    }
+    if station.phase == 2 {
+        return register_offset(stations, 0, next);
+    }
+    if station.phase == 3 {
+        return register_offset(stations, 1 + 2 * island, j);
+    }
+    if station.phase == 4 {
+        return register_offset(stations, 1 + 2 * island, next);
+    }
+    if station.phase == 5 {
+        return register_offset(stations, 2 + 2 * island, j);
+    }
+    register_offset(stations, 2 + 2 * island, next)
+}
+
+// An accepted step of the station with index j, whose record at `at` has been read.
+pub fn access(board: &mut [u8], n: u8, k: u8, j: usize, at: usize, station: Record) -> StepAnswer
+    requires { ⌜ Ready n k station × OnSize n k j (now board) × (at ≡ recordAt n k j) ⌝ }
+    ensures { λ r. ⌜ Accesses n k j station (now (board .entry)) r (now (board .exit)) ⌝ }
+{
+    let place = touched(n, k, j, station);
+    let moved = advance(n, k, station, register_at(board, place));
+    if moved.writes {
+        put_register(board, place, moved.register);
+        put_record(board, at, moved.station);
+        return moved.answer;
+    }
+    put_record(board, at, moved.station);
+    moved.answer
+}

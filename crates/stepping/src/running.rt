@@ -1,0 +1,77 @@
+// A run over a lent list of station numbers: soundness is tested once, and each step then costs the same.
+// Relies on the test of a board and on the step of a sound one; it is a public call.
+ghost use mathlib.Core.Path.{_≡_};
+ghost use mathlib.Core.Option.{none};
+ghost use Prim.Native.Nat.{_≤_};
+ghost use lib.ListN.{length};
+ghost use Rattle.model.specs.Calls.{boardRefusal, run};
+ghost use Rattle.model.specs.Told.{runTold};
+ghost use Rattle.stepping.specs.Stepped.{RunsOn, counts};
+use crate::sound_step::step_on;
+use model::RunVerdict;
+use model::StepAnswer;
+use model::Verdict;
+use soundness::board::check_board;
+
+// Whether a step was taken: 1, or 0 for a refused one.
+pub fn taken(answer: StepAnswer) -> u32
+    ensures { λ r. ⌜ r ≡ counts answer ⌝ }
+{
+    match answer {
+        StepAnswer::Wrote => 1,
+        StepAnswer::Read => 1,
+        StepAnswer::Went {
+            island: _,
+            figure: _,
+        } => 1,
+        StepAnswer::Marked { flag: _, figure: _ } => 1,
+        StepAnswer::Adopted {
+            island: _,
+            figure: _,
+        } => 1,
+        StepAnswer::Decided {
+            island: _,
+            figure: _,
+        } => 1,
+        StepAnswer::Spent {
+            island: _,
+            figure: _,
+        } => 1,
+        StepAnswer::Refused { number: _ } => 0,
+    }
+}
+
+// The steps taken by the stations of the list, one after another, on a board that is known to be sound.
+fn run_on(board: &mut [u8], stations: &[u8]) -> u32
+    requires { ⌜ (boardRefusal (now board) none ≡ none) × (length (now stations) ≤ 65536) ⌝ }
+    ensures { λ r. ⌜ RunsOn (now (stations .entry)) (now (board .entry)) r (now (board .exit)) ⌝ }
+{
+    let mut count: u32 = 0;
+    let mut i = 0;
+    while i < stations.len() {
+        let answer = step_on(board, stations[i]);
+        count += taken(answer);
+        i += 1;
+    }
+    count
+}
+
+pub fn run(board: &mut [u8], stations: &[u8]) -> RunVerdict
+    ensures { λ r. ⌜ (runTold r ≡ run (now (stations .entry)) (now (board .entry)) .answer) × (now (board .exit) ≡ run (now (stations .entry)) (now (board .entry)) .bytes) ⌝ }
+{
+    if 65536 < stations.len() {
+        return RunVerdict::Refused { number: 6 };
+    }
+    let checked = check_board(board);
+    match checked {
+        Verdict::Refused { number } => RunVerdict::Refused { number },
+        Verdict::Accepted => {
+            let total = stations.len() as u32;
+            let taken = run_on(board, stations);
+            RunVerdict::Ran {
+                taken,
+                passed: total - taken,
+            }
+        }
+    }
+}
