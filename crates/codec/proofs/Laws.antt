@@ -1,4 +1,3 @@
 -- One law for each return of a function that has a proof file, over plain variables.
-pub mod Signs
 pub mod Reads
 pub mod Writes

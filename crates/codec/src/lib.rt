@@ -1,8 +1,7 @@
-// Bytes to fields and back, exactly as model/specs/Layout.antt says: figures, registers and records at a place of a board, and
+// Bytes to fields and back, exactly as model/specs/Layout.antt says: registers and records at a place of a board, and
 // where these places are.
-// Relies on the crate model; soundness and the calls rely on it. Every function is straight-line code.
+// Relies on model and on the bytes of a figure; soundness and the calls rely on it. Every function is straight-line code.
 pub mod places; // where the parts of a board stand
-pub mod figures; // four bytes as a signed number
 pub mod cells; // eight bytes put at a place
 pub mod registers; // a register's eight bytes
 pub mod records; // a station record's 24 bytes

@@ -6,8 +6,8 @@ ghost use lib.ListN.{length};
 ghost use Rattle.model.specs.Bytes.{part, splice};
 ghost use Rattle.model.specs.Layout.{readRecord, layRecord};
 use crate::cells::put_cell;
-use crate::figures::figure_at;
-use crate::figures::figure_bytes;
+use figures::figure_at;
+use figures::figure_bytes;
 use model::Record;
 
 pub fn record_at(s: &[u8], at: usize) -> Record

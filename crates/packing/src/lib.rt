@@ -1,10 +1,9 @@
 // Answers packed into one number.
-// Relies on the codec for a figure's bits; the calls for C rely on it.
+// Relies on a figure's bits; the calls for C rely on it.
 ghost use mathlib.Core.Path.{_≡_};
 ghost use Rattle.model.specs.Told.{told, verdict};
 ghost use Rattle.packing.specs.Packing.{bits, packed, packVerdict, packStep};
-use codec::figures::figure_bytes;
-use codec::figures::word_at;
+use figures::bits_of;
 use model::StepAnswer;
 use model::Verdict;
 
@@ -17,19 +16,11 @@ pub fn verdict_number(answer: Verdict) -> u8
     }
 }
 
-// The four bytes that a board would hold, read as one number.
-fn figure_bits(figure: i32) -> u32
-    ensures { λ r. ⌜ r ≡ bits figure ⌝ }
-{
-    let bytes = figure_bytes(figure);
-    word_at(&bytes, 0)
-}
-
 // A step that tells a figure, with its island or flag.
 fn told_of(kind: u8, field: u8, figure: i32) -> u64
     ensures { λ r. ⌜ r ≡ packed 0 kind field (bits figure) ⌝ }
 {
-    kind as u64 * 256 + field as u64 * 65536 + figure_bits(figure) as u64 * 4294967296
+    kind as u64 * 256 + field as u64 * 65536 + bits_of(figure) as u64 * 4294967296
 }
 
 pub fn step_number(answer: StepAnswer) -> u64

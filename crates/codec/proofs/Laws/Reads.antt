@@ -15,7 +15,7 @@ use Rattle.model.specs.Bytes.{byte, part}
 use Rattle.model.specs.Figure.{figure}
 use Rattle.model.specs.Layout.{readRegister, readRecord}
 use Rattle.model.proofs.Basics.Splices.{length-part, byte-part}
-use Rattle.codec.proofs.Laws.Signs.{returned}
+use Rattle.figures.proofs.Laws.Signs.{returned}
 
 -- a part of a part
 pub part-part : (at len i k : ℕ) (b : List ℕ) → at + len ≤ length b → i + k ≤ len → part (at + i) k b ≡ part i k (part at len b)

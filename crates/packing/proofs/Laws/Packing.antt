@@ -1,20 +1,16 @@
 -- The packing: what each return of a packing function has to show.
 -- Relies on the packing's definitions and on the model's numbers; the functions' proofs rely on it.
-use mathlib.Core.Path.{_≡_, refl, sym, ap, _∙_}
-use mathlib.Core.List.{List}
-use Prim.Native.Nat.{ℕ, _+_, _*_, _≤_}
+use mathlib.Core.Path.{_≡_, sym, ap, _∙_}
+use Prim.Native.Nat.{ℕ, _+_, _*_}
 use native.Mathlib.Omega.{arith}
-use lib.IntN.{pos, negsuc}
 use mir.Syntax.{w32}
-use mir.Val.{ofZ, SFits}
+use mir.Val.{ofZ}
 use Rattle.model.specs.declared.StepAnswer.{StepAnswer}
 use Rattle.model.specs.declared.StepAnswer.the-variants.{Wrote, Read, Went, Marked, Adopted, Decided, Spent, Refused}
 use Rattle.model.specs.declared.Verdict.{Verdict}
 use Rattle.model.specs.declared.Verdict.the-variants as verdicts
-use Rattle.model.specs.Bytes.{number, digits, part}
-use Rattle.model.specs.Figure.{Figure, figureBytes}
+use Rattle.model.specs.Figure.{Figure}
 use Rattle.model.specs.Told.{told, verdict}
-use Rattle.model.proofs.Basics.Numbers.{number-digits}
 use Rattle.packing.specs.Packing.{bits, packed, packVerdict, packStep}
 
 -- ---- verdicts
@@ -29,23 +25,9 @@ refused-is v k e = ap (λ (w : Verdict). packVerdict (verdict w)) (sym e)
 
 -- ---- steps
 
-bits-fit : (v : Figure) → SFits w32 v → ofZ w32 v ≤ 4294967295
-bits-fit (pos n) h = omega (arith, h .sfits)
-bits-fit (negsuc n) h = omega arith
-
-whole : (x : ℕ) → part 0 4 (digits 4 x) ≡ digits 4 x
-unfolding part digits
-whole x = refl
-
-pub bits-are : (v z : Figure) (l : List ℕ) (r : ℕ) → SFits w32 v → z ≡ v → l ≡ figureBytes z → r ≡ number (part 0 4 l) → r ≡ bits v
-unfolding bits figureBytes
-bits-are v z l r f s e h =
-    h ∙ ap (λ (x : List ℕ). number (part 0 4 x)) (e ∙ ap figureBytes s) ∙ ap number (whole (ofZ w32 v))
-    ∙ number-digits 4 (ofZ w32 v) (omega (arith, bits-fit v f))
-
-pub told-is : (kind field : ℕ) (v z : Figure) (w : ℕ) → z ≡ v → w ≡ bits z → kind * 256 + field * 65536 + w * 4294967296 ≡ packed 0 kind field (bits v)
-unfolding packed
-told-is kind field v z w s h = omega (arith, h ∙ ap bits s)
+pub told-is : (kind field : ℕ) (v z : Figure) (w : ℕ) → z ≡ v → w ≡ ofZ w32 z → kind * 256 + field * 65536 + w * 4294967296 ≡ packed 0 kind field (bits v)
+unfolding packed bits
+told-is kind field v z w s h = omega (arith, h ∙ ap (ofZ w32) s)
 
 pub wrote-is : (a : StepAnswer) → a ≡ Wrote → 256 ≡ packStep (told a)
 unfolding packStep packed told

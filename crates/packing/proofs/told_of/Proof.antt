@@ -15,8 +15,8 @@ mul-result-2 c = search needs
 add-result : tie.Need-add-result
 add-result c = search needs
 
-figure-bits-requires : tie.Need-figure-bits-requires
-figure-bits-requires c κs = search needs
+bits-of-requires : tie.Need-bits-of-requires
+bits-of-requires c κs = search needs
 
 cast-result : tie.Need-cast-result
 cast-result c = search needs
@@ -28,7 +28,7 @@ add-result-2 : tie.Need-add-result-2
 add-result-2 c = search needs
 
 returns : tie.Need-returns
-returns c = told-is _ _ _ _ _ (toZ-ofZ (search needs)) (c .figure-bits .ensures)
+returns c = told-is _ _ _ _ _ (toZ-ofZ (search needs)) (c .bits-of .ensures)
 
 pub told-of-spec : {M : Type 1} → statement M
 told-of-spec =
@@ -37,7 +37,7 @@ told-of-spec =
     mul-result
     mul-result-2
     add-result
-    figure-bits-requires
+    bits-of-requires
     cast-result
     mul-result-3
     add-result-2

@@ -1,6 +1,6 @@
 -- `put_record`: three splices side by side are one.
 use borrow.Author.Needs.{needs}
-use Rattle.codec.proofs.Laws.Signs.{passed}
+use Rattle.figures.proofs.Laws.Signs.{passed}
 use Rattle.codec.proofs.Laws.Writes.{record-laid}
 use Rattle.codec.proofs.records.put_record.Statement.{statement}
 use Rattle.codec.proofs.records.put_record.Tie as tie

@@ -1,6 +1,6 @@
 -- `write_register`: the eight bytes of the literal are those of the layout.
 use borrow.Author.Needs.{needs}
-use Rattle.codec.proofs.Laws.Signs.{passed}
+use Rattle.figures.proofs.Laws.Signs.{passed}
 use Rattle.codec.proofs.Laws.Writes.{register-laid}
 use Rattle.codec.proofs.registers.write_register.Statement.{statement}
 use Rattle.codec.proofs.registers.write_register.Tie as tie

@@ -1,5 +1,5 @@
 // Figures as bytes: four bytes, least significant first, in two's complement.
-// Relies on nothing of this crate; registers and records rely on it.
+// Relies on the crate model; the codec of registers and records, the test of a board and the packing of answers rely on it.
 ghost use mathlib.Core.Path.{_≡_};
 ghost use Prim.Native.Nat.{_+_, _%_, _≤_, _<_};
 ghost use lib.ListN.{length};
@@ -32,7 +32,7 @@ fn signed(bits: u32) -> i32
 }
 
 // The 32 bits of a number.
-fn bits_of(v: i32) -> u32
+pub fn bits_of(v: i32) -> u32
     ensures { λ r. ⌜ r ≡ ofZ w32 v ⌝ }
 {
     if v < 0 {

@@ -1,8 +1,8 @@
 -- `figure_bytes`: the code divides as `digits` does.
 use borrow.Author.Needs.{needs}
-use Rattle.codec.proofs.Laws.Signs.{figure-laid}
-use Rattle.codec.proofs.figures.figure_bytes.Statement.{statement}
-use Rattle.codec.proofs.figures.figure_bytes.Tie as tie
+use Rattle.figures.proofs.Laws.Signs.{figure-laid}
+use Rattle.figures.proofs.figure_bytes.Statement.{statement}
+use Rattle.figures.proofs.figure_bytes.Tie as tie
 
 bits-of-requires : tie.Need-bits-of-requires
 bits-of-requires c κs = search needs

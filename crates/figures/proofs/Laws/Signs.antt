@@ -1,5 +1,5 @@
--- Two's complement at 32 bits: the casts of src/figures.rt keep their numbers, and four bytes are a figure.
--- Relies on the laws on numbers of the crate model; the proofs of figures rely on it.
+-- Two's complement at 32 bits: the casts of the code keep their numbers, and four bytes are a figure.
+-- Relies on the laws on numbers of the crate model; the functions' proofs rely on it, and so do those of the codec.
 use mathlib.Core.Path.{_≡_, sym, ap, _∙_, subst}
 use mathlib.Core.Bool.{true, false}
 use mathlib.Core.List.{List, [], _∷_}

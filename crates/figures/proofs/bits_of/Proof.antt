@@ -3,9 +3,9 @@ use Prim.Native.Nat.{_-_}
 use lib.IntN.{ℤ, natAbs}
 use mathlib.Core.Path.{_∙_, ap}
 use native.Mathlib.Omega.{arith}
-use Rattle.codec.proofs.Laws.Signs.{unsigned, unsigned-le, bits-in, positive, negative}
-use Rattle.codec.proofs.figures.bits_of.Statement.{statement}
-use Rattle.codec.proofs.figures.bits_of.Tie as tie
+use Rattle.figures.proofs.Laws.Signs.{unsigned, unsigned-le, bits-in, positive, negative}
+use Rattle.figures.proofs.bits_of.Statement.{statement}
+use Rattle.figures.proofs.bits_of.Tie as tie
 
 cast-result : tie.Need-cast-result
 cast-result c = unsigned _ _ (negative _ (c .before .fits .v) (c .if1 .taken)) (omega arith)

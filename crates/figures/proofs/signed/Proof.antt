@@ -1,9 +1,9 @@
 -- `signed`: complementing twice gives the bits back, which the result is read from.
 use borrow.Author.Needs.{needs}
 use native.Mathlib.Omega.{arith}
-use Rattle.codec.proofs.Laws.Signs.{complement-twice}
-use Rattle.codec.proofs.figures.signed.Statement.{statement}
-use Rattle.codec.proofs.figures.signed.Tie as tie
+use Rattle.figures.proofs.Laws.Signs.{complement-twice}
+use Rattle.figures.proofs.signed.Statement.{statement}
+use Rattle.figures.proofs.signed.Tie as tie
 
 cast-result : tie.Need-cast-result
 cast-result c = search needs

@@ -1,8 +1,8 @@
 -- `figure_at`: the number of the four bytes, read as signed.
 use borrow.Author.Needs.{needs}
-use Rattle.codec.proofs.Laws.Signs.{figure-read}
-use Rattle.codec.proofs.figures.figure_at.Statement.{statement}
-use Rattle.codec.proofs.figures.figure_at.Tie as tie
+use Rattle.figures.proofs.Laws.Signs.{figure-read}
+use Rattle.figures.proofs.figure_at.Statement.{statement}
+use Rattle.figures.proofs.figure_at.Tie as tie
 
 word-at-requires : tie.Need-word-at-requires
 word-at-requires c κs = search needs

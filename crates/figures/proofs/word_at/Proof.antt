@@ -1,8 +1,8 @@
 -- `word_at`: the sum that the code makes is the number of the four bytes.
 use borrow.Author.Needs.{needs}
-use Rattle.codec.proofs.Laws.Signs.{word-read}
-use Rattle.codec.proofs.figures.word_at.Statement.{statement}
-use Rattle.codec.proofs.figures.word_at.Tie as tie
+use Rattle.figures.proofs.Laws.Signs.{word-read}
+use Rattle.figures.proofs.word_at.Statement.{statement}
+use Rattle.figures.proofs.word_at.Tie as tie
 
 shared-slice-read-wide : tie.Need-shared-slice-read-wide
 shared-slice-read-wide c = search needs

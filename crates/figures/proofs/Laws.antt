@@ -1,0 +1,2 @@
+-- Laws over plain variables.
+pub mod Signs
