@@ -30,7 +30,7 @@ pub extern "C" fn lufanelis_show(board: &[u8], line: &mut [u8]) -> u32
 pub extern "C" fn lufanelis_word(line: &[u8]) -> u64
     ensures { λ r. ⌜ r ≡ packWord (formWord (now (line .entry))) ⌝ }
 {
-    let word = sheet::word::form_word(line);
+    let word = lexer::word::form_word(line);
     if word.len() == 0 {
         return 0;
     }

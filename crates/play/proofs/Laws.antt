@@ -8,8 +8,8 @@ use lib.ListN.{length, take, replicate, length-append}
 use lib.Seq.{length-take-le}
 use Rattle.shown.specs.declared.line.Line.{Line}
 use Rattle.shown.specs.Puts.{Holds}
-use Rattle.player.specs.Played.{answerAt}
-use Rattle.player.proofs.Laws.Sheets.{behind}
+use Rattle.answers.specs.Answered.{answerAt}
+use Rattle.answers.proofs.Sheets.{behind}
 
 pub counted : (n : ℕ) (l : List ℕ) → n ≤ length l → n ≡ length (take n l)
 counted n l h = sym (length-take-le n l h)

@@ -1,10 +1,10 @@
 // Plays a run sheet: reads standard input whole, and writes each answer as soon as it is known.
-// Relies on the player for everything but reading and writing.
+// Relies on the answers of a sheet for everything but reading and writing.
 ghost use Prim.Native.Nat.{_≤_};
 ghost use lib.ListN.{length};
+use answers::next_answer;
 use libc::STDIN_FILENO;
 use libc::STDOUT_FILENO;
-use player::answers::next_answer;
 
 // How many bytes were read, and whether they are all that there is or fill the buffer: a part of a sheet must not be played.
 struct Input {

@@ -1,3 +1,2 @@
 -- What the functions of the player promise, in the words of the model's sheet.
-pub mod Walks
 pub mod Played

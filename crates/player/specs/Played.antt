@@ -1,17 +1,13 @@
--- What a line and a sheet promise: what the model plays, handed back by value.
--- Relies on the model's sheet and on what a line holds; the contracts of the player rely on it.
+-- What a played line promises: what the model plays, handed back by value.
+-- Relies on the model's sheet and on what a line holds; the contracts of the player and of a sheet line by line rely on it.
 use mathlib.Core.Path.{_≡_}
-use mathlib.Core.Bool.{cond}
-use mathlib.Core.List.{List, [], _∷_, _++_}
-use Prim.Native.Nat.{ℕ, _+_, _<_}
-use lib.Dec.{eqb, leb}
-use lib.ListN.{length, drop}
+use mathlib.Core.List.{List}
+use Prim.Native.Nat.{ℕ, _<_}
+use lib.ListN.{length}
 use Rattle.model.specs.Forms.{Items, steps, reads, readLine}
 use Rattle.model.specs.Sheet as model
-use Rattle.model.specs.Sheet.{refusedText}
 use Rattle.shown.specs.Puts.{Holds}
 use Rattle.player.specs.declared.line.Played.{Played}
-use Rattle.player.specs.declared.answers.Answer.{Answer}
 
 pub record Plays (p : model.Played) (r : Played) (d : List ℕ) : Type 0 where
   pub line : Holds (r .line) (p .printed)
@@ -26,42 +22,3 @@ TurnsDown k laid r = (m : List ℕ) → Plays (model.turnedDown laid m k) r m
 -- a line that was read as `steps`
 unfoldable pub PlaysSteps : (line : List ℕ) (laid : ℕ) (m : List ℕ) → Played → List ℕ → Type 0
 PlaysSteps line laid m r d = (is : Items) → readLine line ≡ reads (steps is) → Plays (model.playForm laid m (steps is)) r d
-
--- ---- a sheet line by line
-
--- the line in front, without the LF that ends it
-unfoldable pub lineIn : List ℕ → List ℕ
-lineIn [] = []
-lineIn (b ∷ s) = cond (eqb b 10) [] (b ∷ lineIn s)
-
--- what is printed, the board in force afterwards, the place of the sheet to go on from, and the memory afterwards
-pub record Answered : Type 0 where
-  pub printed : List ℕ
-  pub laid : ℕ
-  pub next : ℕ
-  pub memory : List ℕ
-
-module _ (sheet : List ℕ) (at laid : ℕ) (m : List ℕ) where
-  unfoldable pub ended : Answered
-  ended = record { printed = []; laid = laid; next = at; memory = m }
-
-  -- "this alone is printed": the sheet goes on from its end
-  unfoldable pub refusedWhole : Answered
-  refusedWhole = record { printed = refusedText 1 ++ (10 ∷ []); laid = laid; next = length sheet; memory = m }
-
-  unfoldable pub lineAnswered : (line : List ℕ) → Answered
-  lineAnswered line = answered (model.playLine laid m line)
-    where
-      answered : model.Played → Answered
-      answered p = record { printed = p .printed ++ (10 ∷ []); laid = p .laid; next = at + length line + 1; memory = p .memory }
-
-  -- the answer to the line that starts at `at`
-  unfoldable pub answerAt : Answered
-  answerAt =
-      cond (leb (length sheet) at) ended (cond (leb (length sheet) 32768) (lineAnswered (lineIn (drop at sheet))) refusedWhole)
-
-pub record Answers (a : Answered) (r : Answer) (d : List ℕ) : Type 0 where
-  pub line : Holds (r .line) (a .printed)
-  pub laid : r .laid ≡ a .laid
-  pub next : r .next ≡ a .next
-  pub memory : d ≡ a .memory

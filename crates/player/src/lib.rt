@@ -1,5 +1,3 @@
-// The player of run sheets: one line on a lent memory, and a sheet line by line.
-// Relies on the reader of lines and on the calls; the program and the C interface rely on it.
-pub mod answers;
+// The player of a run sheet's line on a lent memory.
+// Relies on the reader of lines, the walk over items and the calls; the answers of a sheet and the C interface rely on it.
 pub mod line;
-pub mod walk;

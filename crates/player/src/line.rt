@@ -1,12 +1,12 @@
 // One line of a run sheet on a lent memory: refusals 2 to 6, then the call's own, and the printed line by value.
-// Relies on the reader of lines, the calls and the lines they print; the player of a sheet relies on it.
+// Relies on the reader of lines, the walk over items, the calls and the lines they print; the answers of a sheet and the C
+// interface rely on it.
 ghost use mathlib.Core.Path.{_≡_};
 ghost use Prim.Native.Nat.{min};
 ghost use Rattle.model.specs.Forms as forms;
 ghost use Rattle.model.specs.Sheet.{playLine, playForm};
-ghost use Rattle.player.specs.Walks.{LineCounts};
+ghost use Rattle.walk.specs.Walks.{LineCounts};
 ghost use Rattle.player.specs.Played.{Plays, TurnsDown, PlaysSteps};
-use crate::walk::run_line;
 use calls::lay;
 use calls::propose;
 use calls::show;
@@ -20,6 +20,7 @@ use shown::answer::proposed_line;
 use shown::answer::ran_line;
 use shown::answer::refused_line;
 use shown::line::Line;
+use walk::run_line;
 
 // What is printed, without its LF, and how many bytes of the memory are the board that was laid last; 0 is none.
 pub struct Played {

@@ -1,11 +1,13 @@
 -- Items as the code reads them: how many steps they stand for, and the place after them.
--- Relies on the model's items; the contracts of the readers of items rely on it.
+-- Relies on the model's items and on what a number's place says; the contracts of the readers of items rely on it.
 use mathlib.Core.Path.{_≡_}
 use mathlib.Core.List.{List}
 use mathlib.Core.Option.{Option, none, some}
 use Prim.Native.Nat.{ℕ, min, _≤_, _<_}
 use lib.ListN.{length, drop}
-use Rattle.model.specs.Forms.{Items, Read, found, expandItem, expand, itemIn, itemsIn}
+use Rattle.model.specs.Forms.{Items, Read, found, expandItem, expand, timesIn, itemIn, itemsIn}
+use Rattle.lexer.specs.declared.number.FoundNumber.{FoundNumber}
+use Rattle.lexer.specs.Placed.{numberAt, NumberInside}
 use Rattle.sheet.specs.declared.item.Counted.{Counted}
 use Rattle.sheet.specs.declared.item.Counted.the-variants.{Steps, Missing}
 
@@ -25,6 +27,11 @@ CountedInside line at Missing = Unit {0}
 unfoldable pub sized : {A : Type 0} → (A → List ℕ) → Option (Read A) → Option (Read ℕ)
 sized steps none = none
 sized steps (some r) = found (capped (length (steps (r .value)))) (r .rest)
+
+-- the number of "(times k ", with the place after it
+pub record TimesIs (line : List ℕ) (at : ℕ) (r : FoundNumber) : Type 0 where
+  pub reads : numberAt line r ≡ timesIn (drop at line)
+  pub inside : NumberInside line at 1 99999 r
 
 -- the model's reader agrees whatever its fuel, if that exceeds the bytes left
 pub record ItemIs (line : List ℕ) (at : ℕ) (r : Counted) : Type 0 where

@@ -1,5 +1,5 @@
 // A line to its form, or to refusal 2, 3 or 4.
-// Relies on words, numbers and items; the player of run sheets relies on it.
+// Relies on the lexer's words and numbers and on items; the player of a line relies on it.
 ghost use mathlib.Core.Path.{_≡_};
 ghost use mathlib.Core.Bool.{true};
 ghost use mathlib.Core.List.{[]};
@@ -10,14 +10,14 @@ ghost use Rattle.model.specs.Show.{text};
 ghost use Rattle.sheet.specs.Lines.{lineForm};
 use crate::item::Counted;
 use crate::item::items;
-use crate::number::FoundFigure;
-use crate::number::FoundNumber;
-use crate::number::spaced_figure;
-use crate::number::spaced_number;
-use crate::word::FormWord;
-use crate::word::Named;
-use crate::word::first_word;
-use crate::word::form_named;
+use lexer::number::FoundFigure;
+use lexer::number::FoundNumber;
+use lexer::number::spaced_figure;
+use lexer::number::spaced_number;
+use lexer::word::FormWord;
+use lexer::word::Named;
+use lexer::word::first_word;
+use lexer::word::form_named;
 
 // A form with its numbers. The items of `steps` stay in the line, from its seventh byte on; `count` is how many steps they
 // stand for, 65,537 for any number above 65,536.

@@ -1,12 +1,11 @@
 // The items of `steps`: the reader of an item and the reader of a list of items call each other, and count the steps.
-// Relies on numbers; the reader of a line relies on it.
+// Relies on the lexer's numbers; the reader of a line and the walk over items rely on it.
 ghost use mathlib.Core.Path.{_≡_};
 ghost use Prim.Native.Nat.{_≤_, _<_};
 ghost use lib.ListN.{length};
-ghost use Rattle.sheet.specs.Placed.{TimesIs};
-ghost use Rattle.sheet.specs.Counts.{capped, ItemIs, ItemsAre};
-use crate::number::FoundNumber;
-use crate::number::number;
+ghost use Rattle.sheet.specs.Counts.{capped, TimesIs, ItemIs, ItemsAre};
+use lexer::number::FoundNumber;
+use lexer::number::number;
 
 // How many steps the items stand for, 65,537 for any number above 65,536, and the place after them.
 pub enum Counted {

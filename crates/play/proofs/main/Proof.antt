@@ -1,5 +1,5 @@
 -- `main` meets its contract: every part that it lends is inside its array, and each answer leads on in the sheet.
--- Relies on what the player promises of the next answer.
+-- Relies on what is promised of the next answer.
 use mathlib.Core.Path.{_≡_}
 use Prim.Native.Nat.{_≤_, _-_}
 use borrow.Author.Needs.{needs}

@@ -1,5 +1,6 @@
 -- One line of a run sheet: what is printed, and what is left of the memory, at each return of its player.
--- Relies on the model's sheet and calls and on how long a printed line can be; the proofs of `line` rely on it.
+-- Relies on the model's sheet and calls and on how long a printed line can be; the proofs of `line` and the laws of a sheet line
+-- by line rely on it.
 use mathlib.Core.Path.{_≡_, refl, sym, ap, _∙_, subst}
 use mathlib.Core.List.{List, [], _++_}
 use mathlib.Core.Option.{none, some}
@@ -31,8 +32,8 @@ use Rattle.shown.specs.Puts.{Holds}
 use Rattle.shown.proofs.Decimals.{length-any}
 use Rattle.shown.proofs.Bounds.{length-signed}
 use Rattle.calls.proofs.Laws.Showing as showing
+use Rattle.walk.specs.Walks.{RunsLine}
 use Rattle.player.specs.declared.line.Played.{Played}
-use Rattle.player.specs.Walks.{RunsLine}
 use Rattle.player.specs.Played.{Plays, TurnsDown, PlaysSteps}
 use Rattle.player.proofs.Laws.Parts.{part-taken, part-left}
 

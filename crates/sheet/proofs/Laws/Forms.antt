@@ -1,5 +1,5 @@
 -- The forms by their words: what follows `board`, `propose` and `steps`, as the readers of numbers, figures and items found it.
--- Relies on Spaced and the model's `formAfter`; the proofs of src/form.rt rely on it.
+-- Relies on the lexer's Places and Spaced and the model's `formAfter`; the proofs of src/form.rt rely on it.
 use mathlib.Core.Path.{_≡_, refl, sym, ap, _∙_}
 use mathlib.Core.Bool.{Bool, true, false, cond}
 use mathlib.Core.List.{List, []}
@@ -13,18 +13,18 @@ use mir.Val.{Fits}
 use Rattle.model.specs.Show.{text}
 use Rattle.model.specs.Forms as forms
 use Rattle.model.specs.Forms.{Items, Read, found, andThen, itemsIn, expand, closing, formAfter, boardWord, proposeWord, stepsWord, same, orFour}
-use Rattle.sheet.specs.declared.number.FoundNumber.{FoundNumber}
-use Rattle.sheet.specs.declared.number.FoundNumber.the-variants as numbers
-use Rattle.sheet.specs.declared.number.FoundFigure.{FoundFigure}
-use Rattle.sheet.specs.declared.number.FoundFigure.the-variants as signed
+use Rattle.lexer.specs.declared.number.FoundNumber.{FoundNumber}
+use Rattle.lexer.specs.declared.number.FoundNumber.the-variants as numbers
+use Rattle.lexer.specs.declared.number.FoundFigure.{FoundFigure}
+use Rattle.lexer.specs.declared.number.FoundFigure.the-variants as signed
 use Rattle.sheet.specs.declared.item.Counted.{Counted}
 use Rattle.sheet.specs.declared.item.Counted.the-variants as counts
 use Rattle.sheet.specs.declared.form.LineForm.the-variants.{Board, Propose, Steps, Refused}
-use Rattle.sheet.specs.Placed.{SpacedIs, FigureIs}
+use Rattle.lexer.specs.Placed.{SpacedIs, FigureIs}
 use Rattle.sheet.specs.Counts.{countedAt, sized, ItemsAre}
 use Rattle.sheet.specs.Lines.{lineForm}
-use Rattle.sheet.proofs.Laws.Places.{here}
-use Rattle.sheet.proofs.Laws.Spaced.{number-missed, number-found, number-inside, figure-missed, figure-found}
+use Rattle.lexer.proofs.Laws.Places.{here}
+use Rattle.lexer.proofs.Laws.Spaced.{number-missed, number-found, number-inside, figure-missed, figure-found}
 
 module _ (line : List ℕ) (at : ℕ) (first : FoundNumber) (is : SpacedIs line at first) where
   pub board-no-first : first ≡ numbers.Missing → Refused 4 ≡ lineForm (orFour (formAfter boardWord (drop at line)))

@@ -1,6 +1,6 @@
 -- Items counted as they are read: what the model's reader gives at each place where the code's readers answer, by the number
 -- of steps alone.
--- Relies on Places and the model's items; the proof of the two readers of items relies on it.
+-- Relies on the lexer's Places and the model's items; the proof of the two readers of items relies on it.
 use mathlib.Core.Path.{_≡_, refl, sym, ap, _∙_}
 use mathlib.Core.Bool.{Bool, true, false}
 use mathlib.Core.List.{List, _++_}
@@ -13,13 +13,13 @@ use lib.ListN.{length, getD, drop, length-append, drop-of-length-le}
 use borrow.Author.Tests.{leb-true, leb-false, eq-eqb, ne-eqb}
 use Rattle.model.specs.Forms.{Item, station, times, Items, next, repeated, expandItem, expand, Read, found, andThen, spaced, number, natural, itemIn, itemsIn}
 use Rattle.model.proofs.Sheet.Limits.{length-repeated}
-use Rattle.sheet.specs.declared.number.FoundNumber.{FoundNumber}
-use Rattle.sheet.specs.declared.number.FoundNumber.the-variants as numbers
+use Rattle.lexer.specs.declared.number.FoundNumber.{FoundNumber}
+use Rattle.lexer.specs.declared.number.FoundNumber.the-variants as numbers
 use Rattle.sheet.specs.declared.item.Counted.{Counted}
 use Rattle.sheet.specs.declared.item.Counted.the-variants.{Steps, Missing}
-use Rattle.sheet.specs.Placed.{numberAt, NumberIs, TimesIs}
-use Rattle.sheet.specs.Counts.{capped, countedAt, CountedInside, sized, ItemIs, ItemsAre}
-use Rattle.sheet.proofs.Laws.Places.{first-byte, behind-first, left-over}
+use Rattle.lexer.specs.Placed.{numberAt, NumberIs}
+use Rattle.sheet.specs.Counts.{capped, countedAt, CountedInside, sized, TimesIs, ItemIs, ItemsAre}
+use Rattle.lexer.proofs.Laws.Places.{first-byte, behind-first, left-over}
 
 -- ---- the steps of items, by their number
 

@@ -12,13 +12,13 @@ use borrow.Author.Tests.{le-leb, lt-leb}
 use Rattle.model.specs.Show.{text, textFrom}
 use Rattle.model.specs.Calls.{unless}
 use Rattle.model.specs.Forms.{Word, boardWord, proposeWord, stepsWord, showWord, wordOf, same, upToStop, firstWord, formAfter, formIn, tooDeep, orFour, readLine}
-use Rattle.sheet.specs.declared.word.FormWord.{FormWord}
-use Rattle.sheet.specs.declared.word.FormWord.the-variants as words
-use Rattle.sheet.specs.declared.word.Named.{Named}
-use Rattle.sheet.specs.declared.word.Named.the-variants.{Form, Nothing}
+use Rattle.lexer.specs.declared.word.FormWord.{FormWord}
+use Rattle.lexer.specs.declared.word.FormWord.the-variants as words
+use Rattle.lexer.specs.declared.word.Named.{Named}
+use Rattle.lexer.specs.declared.word.Named.the-variants.{Form, Nothing}
 use Rattle.sheet.specs.declared.form.LineForm.{LineForm}
 use Rattle.sheet.specs.declared.form.LineForm.the-variants.{Refused}
-use Rattle.sheet.specs.Words.{named, namedAs}
+use Rattle.lexer.specs.Words.{named, namedAs}
 use Rattle.sheet.specs.Lines.{lineForm}
 
 -- ---- a word by its name

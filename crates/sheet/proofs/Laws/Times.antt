@@ -1,5 +1,5 @@
 -- A text in front of some bytes, and "(times k " at a place of a line.
--- Relies on Places, Spaced and the model's `behind` and `timesIn`; the proof of item::times relies on it.
+-- Relies on the lexer's Places and Spaced and the model's `behind` and `timesIn`; the proof of item::times relies on it.
 use mathlib.Core.Path.{_≡_, refl, sym, ap, _∙_}
 use mathlib.Core.Bool.{Bool, true, false, cond}
 use mathlib.Core.List.{List, [], _∷_}
@@ -12,11 +12,12 @@ use lib.Seq.{drop-drop}
 use borrow.Author.Tests.{eq-eqb, ne-eqb, eqb-true}
 use Rattle.model.specs.Show.{text, textFrom}
 use Rattle.model.specs.Forms.{found, andThen, behind, timesIn}
-use Rattle.sheet.specs.declared.number.FoundNumber.{FoundNumber}
-use Rattle.sheet.specs.declared.number.FoundNumber.the-variants.{At, Missing}
-use Rattle.sheet.specs.Placed.{numberAt, NumberIs, TimesIs}
-use Rattle.sheet.proofs.Laws.Places.{first-byte, left-over}
-use Rattle.sheet.proofs.Laws.Spaced.{number-missed, number-found, number-inside}
+use Rattle.lexer.specs.declared.number.FoundNumber.{FoundNumber}
+use Rattle.lexer.specs.declared.number.FoundNumber.the-variants.{At, Missing}
+use Rattle.lexer.specs.Placed.{numberAt, NumberIs}
+use Rattle.lexer.proofs.Laws.Places.{first-byte, left-over}
+use Rattle.lexer.proofs.Laws.Spaced.{number-missed, number-found, number-inside}
+use Rattle.sheet.specs.Counts.{TimesIs}
 
 -- ---- a text in front
 

@@ -1,6 +1,6 @@
 -- `form::board_form` meets its contract: two numbers behind spaces, and the closing bracket.
 use borrow.Author.Needs.{needs}
-use Rattle.sheet.proofs.Laws.Spaced.{number-inside}
+use Rattle.lexer.proofs.Laws.Spaced.{number-inside}
 use Rattle.sheet.proofs.Laws.Forms.{byte-fits, board-no-first, board-no-second, board-open, board-read}
 use Rattle.sheet.proofs.form.board_form.Statement.{statement}
 use Rattle.sheet.proofs.form.board_form.Tie as tie

@@ -1,7 +1,7 @@
 -- `form::form` meets its contract: the word in front names the form, and what follows it is read by that form's reader.
 use native.Mathlib.Omega.{arith}
 use borrow.Author.Needs.{needs}
-use Rattle.sheet.specs.declared.word.FormWord.the-variants.{Board, Propose, Steps, Show}
+use Rattle.lexer.specs.declared.word.FormWord.the-variants.{Board, Propose, Steps, Show}
 use Rattle.sheet.proofs.Laws.Lines.{no-form, form-read, part-inside, place-inside}
 use Rattle.sheet.proofs.form.form.Statement.{statement}
 use Rattle.sheet.proofs.form.form.Tie as tie

@@ -1,6 +1,6 @@
 -- `form::propose_form` meets its contract: a number and a figure behind spaces, and the closing bracket.
 use borrow.Author.Needs.{needs}
-use Rattle.sheet.proofs.Laws.Spaced.{figure-inside}
+use Rattle.lexer.proofs.Laws.Spaced.{figure-inside}
 use Rattle.sheet.proofs.Laws.Forms.{byte-fits, propose-no-first, propose-no-second, propose-open, propose-read}
 use Rattle.sheet.proofs.form.propose_form.Statement.{statement}
 use Rattle.sheet.proofs.form.propose_form.Tie as tie

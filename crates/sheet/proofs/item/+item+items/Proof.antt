@@ -16,7 +16,7 @@ use Rattle.sheet.proofs.item.items.Kinds as items-kinds
 use Rattle.sheet.proofs.item.+item+items.Lts-items as items-lts
 use Rattle.sheet.proofs.item.cap.Reads as cap-reads
 use Rattle.sheet.proofs.item.times.Reads as times-reads
-use Rattle.sheet.proofs.number.number.Reads as number-reads
+use Rattle.lexer.proofs.number.number.Reads as number-reads
 use Rattle.sheet.proofs.item.+item+items.{statement}
 use Rattle.sheet.proofs.item.+item+items.Tie.{close}
 

@@ -1,0 +1,43 @@
+// A sheet line by line: refusal 1, where each line ends, and what it prints with its LF.
+// Relies on the player of one line; the program relies on it.
+ghost use Rattle.answers.specs.Answered.{Answers, answerAt};
+use bytes::scan::find;
+use player::line::play_line;
+use shown::answer::refused_line;
+use shown::line::Line;
+use shown::line::empty;
+use shown::line::put_byte;
+
+// What is printed next, the board in force afterwards, and the place of the sheet to go on from.
+pub struct Answer {
+    pub line: Line,
+    pub laid: usize,
+    pub next: usize,
+}
+
+// The answer to the line that starts at `at`; none at the sheet's end.
+pub fn next_answer(sheet: &[u8], at: usize, laid: usize, memory: &mut [u8]) -> Answer
+    ensures { λ r. ⌜ Answers (answerAt (now (sheet .entry)) at laid (now (memory .entry))) r (now (memory .exit)) ⌝ }
+{
+    if sheet.len() <= at {
+        return Answer {
+            line: empty(),
+            laid,
+            next: at,
+        };
+    }
+    if 32768 < sheet.len() {
+        return Answer {
+            line: put_byte(refused_line(1), b'\n'),
+            laid,
+            next: sheet.len(),
+        };
+    }
+    let end = find(sheet, at, sheet.len(), b'\n');
+    let played = play_line(&sheet[at..end], laid, memory);
+    Answer {
+        line: put_byte(played.line, b'\n'),
+        laid: played.laid,
+        next: end + 1,
+    }
+}

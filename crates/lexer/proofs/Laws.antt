@@ -1,0 +1,5 @@
+-- Laws of the lexer, by subject.
+pub mod Places
+pub mod Numbers
+pub mod Spaced
+pub mod Words

@@ -1,0 +1,27 @@
+-- A word as the code names it, and where it ends.
+-- Relies on the model's words; the contracts of words rely on it.
+use mathlib.Core.Path.{_≡_}
+use mathlib.Core.List.{List}
+use mathlib.Core.Option.{Option, none, some}
+use Prim.Native.Nat.{ℕ, _≤_, _-_}
+use lib.ListN.{length, take, drop}
+use Rattle.model.specs.Forms.{Word, boardWord, proposeWord, stepsWord, showWord, wordOf, upToStop}
+use Rattle.lexer.specs.declared.word.FormWord.the-variants.{Board, Propose, Steps, Show}
+use Rattle.lexer.specs.declared.word.Named.{Named}
+use Rattle.lexer.specs.declared.word.Named.the-variants.{Form, Nothing}
+
+unfoldable pub namedAs : Option Word → Named
+namedAs none = Nothing
+namedAs (some boardWord) = Form Board
+namedAs (some proposeWord) = Form Propose
+namedAs (some stepsWord) = Form Steps
+namedAs (some showWord) = Form Show
+
+unfoldable pub named : List ℕ → Named
+named w = namedAs (wordOf w)
+
+-- the word that starts behind the line's first byte ends before the place r
+pub record WordEnd (line : List ℕ) (r : ℕ) : Type 0 where
+  pub behind : 1 ≤ r
+  pub inside : r ≤ length line
+  pub word : take (r - 1) (drop 1 line) ≡ upToStop (drop 1 line)

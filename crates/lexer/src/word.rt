@@ -1,0 +1,93 @@
+// The word that names a form, as the part of the line that it occupies, and which form it names.
+// Relies on the test of two parts for equality; the reader of a line and the C interface rely on it.
+ghost use mathlib.Core.Path.{_≡_};
+ghost use Prim.Native.Nat.{_≤_, _<_};
+ghost use lib.ListN.{length};
+ghost use Rattle.model.specs.Forms.{firstWord, formWord};
+ghost use Rattle.lexer.specs.Words.{WordEnd, named};
+use check::same;
+
+pub enum FormWord {
+    Board,
+    Propose,
+    Steps,
+    Show,
+}
+
+pub enum Named {
+    Form { word: FormWord },
+    Nothing,
+}
+
+// Where the word that starts at 1 ends: before a space, a bracket or the line's end.
+fn word_end(line: &[u8]) -> usize
+    requires { ⌜ 0 < length (now line) ⌝ }
+    ensures { λ r. ⌜ WordEnd (now (line .entry)) r ⌝ }
+{
+    let mut end = 1;
+    while end < line.len() {
+        let byte = line[end];
+        if byte == b' ' {
+            return end;
+        }
+        if byte == b'(' {
+            return end;
+        }
+        if byte == b')' {
+            return end;
+        }
+        end += 1;
+    }
+    end
+}
+
+// The bytes that stand where a form's word would.
+pub fn first_word(line: &[u8]) -> &[u8]
+    ensures { λ r. ⌜ now r ≡ firstWord (now (line .entry)) ⌝ }
+{
+    if line.len() == 0 {
+        return &line[..0];
+    }
+    if line[0] != b'(' {
+        return &line[..0];
+    }
+    let end = word_end(line);
+    &line[1..end]
+}
+
+pub fn form_named(word: &[u8]) -> Named
+    ensures { λ r. ⌜ r ≡ named (now (word .entry)) ⌝ }
+{
+    if same(word, b"board") {
+        return Named::Form {
+            word: FormWord::Board,
+        };
+    }
+    if same(word, b"propose") {
+        return Named::Form {
+            word: FormWord::Propose,
+        };
+    }
+    if same(word, b"steps") {
+        return Named::Form {
+            word: FormWord::Steps,
+        };
+    }
+    if same(word, b"show") {
+        return Named::Form {
+            word: FormWord::Show,
+        };
+    }
+    Named::Nothing
+}
+
+// The word that names the line's form, or an empty part.
+pub fn form_word(line: &[u8]) -> &[u8]
+    ensures { λ r. ⌜ now r ≡ formWord (now (line .entry)) ⌝ }
+{
+    let word = first_word(line);
+    let Named::Form { word: _ } = form_named(word) else {
+        return &line[..0];
+    };
+    word
+}

@@ -1,0 +1,234 @@
+-- The walk over an item and the walk over a list of items meet their contracts. Each call is at a later place of the line, so
+-- that the bytes left are the measure of both; a loop over rounds, and one over the items of a list, each keep what has been run.
+use Prim.Native.Nat.{ℕ, _-_, _<_}
+use native.Mathlib.Omega.{arith}
+use lib.ListN.{length}
+use borrow.Author.Needs.{needs}
+use Rattle.sheet.proofs.Laws.Items.{times-behind, falls-to}
+use Rattle.lexer.proofs.Laws.Spaced.{number-inside}
+use Rattle.walk.proofs.Laws.Walking.{item-inside, no-number, one-step, no-times, Rounds, rounds-begin, round-reads, round-fits, round-more, rounds-end}
+use Rattle.walk.proofs.Laws.Passing.{Passed, passed-begin, passed-inside, item-reads, passed-fits, passed-behind, passed-more, passed-end}
+use borrow.Fn.Kinds.{In}
+use borrow.Fn.PlainCycle.{Measures, is, falls, and}
+use Rattle.walk.proofs.run_item.Reads as run-item
+use Rattle.walk.proofs.run_item.Kinds as run-item-kinds
+use Rattle.walk.proofs.+run_item+run_items.Lts-run_item as run-item-lts
+use Rattle.walk.proofs.run_items.Reads as run-items
+use Rattle.walk.proofs.run_items.Kinds as run-items-kinds
+use Rattle.walk.proofs.+run_item+run_items.Lts-run_items as run-items-lts
+use Rattle.stepping.proofs.running.taken.Reads as taken-reads
+use Rattle.stepping.proofs.sound_step.step_on.Reads as step-on-reads
+use Rattle.sheet.proofs.item.times.Reads as times-reads
+use Rattle.lexer.proofs.number.number.Reads as number-reads
+use Rattle.walk.proofs.+run_item+run_items.{statement}
+use Rattle.walk.proofs.+run_item+run_items.Tie.{close}
+
+abbrev μ-run-item : Measures 2 run-item-kinds.ps ℕ
+μ-run-item κs a = length (a .1 .0 .now) - a .1 .1 .0
+
+abbrev μ-run-items : Measures 2 run-items-kinds.ps ℕ
+μ-run-items κs a = length (a .1 .0 .now) - a .1 .1 .0
+
+abbrev run-item-at : ℕ → In 2 run-item-kinds.ps
+run-item-at t = and 2 run-item-kinds.ps (is 2 run-item-kinds.ps μ-run-item t) run-item.Pre
+
+abbrev run-item-below : ℕ → In 2 run-item-kinds.ps
+run-item-below t =
+    and 2 run-item-kinds.ps (falls 2 run-item-kinds.ps _<_ μ-run-item t) run-item.Pre
+
+abbrev run-items-at : ℕ → In 2 run-items-kinds.ps
+run-items-at t = and 2 run-items-kinds.ps (is 2 run-items-kinds.ps μ-run-items t) run-items.Pre
+
+abbrev run-items-below : ℕ → In 2 run-items-kinds.ps
+run-items-below t =
+    and 2 run-items-kinds.ps (falls 2 run-items-kinds.ps _<_ μ-run-items t) run-items.Pre
+
+-- what the calls that `run_items` makes ask and give
+abbrev run-items-claims : ℕ → run-items-lts.Claims
+run-items-claims t = (run-item-below t, run-item.Post)
+
+-- what the calls that `run_item` makes ask and give
+abbrev run-item-claims : ℕ → run-item-lts.Claims
+run-item-claims t = (number-reads.Asked, number-reads.Learnt, step-on-reads.Asked, step-on-reads.Learnt, taken-reads.Asked, taken-reads.Learnt, times-reads.Asked, times-reads.Learnt, run-items-below t, run-items.Post)
+
+abbrev run-item-Inv-loop : run-item-lts.InvT-loop
+run-item-Inv-loop board₀ line at value inner total₀ next₀ i₀ board total next i =
+    Rounds line board₀ value inner board total next i
+
+abbrev run-item-μ-loop : run-item-lts.MeasureT-loop
+run-item-μ-loop board₀ line at value inner total₀ next₀ i₀ board total next i = value - i
+
+run-item-shared-slice-read-if1 : (t : ℕ) → run-item-lts.Need-shared-slice-read-if1 (run-item-claims t) (run-item-at t) run-item.Post run-item-Inv-loop run-item-μ-loop
+run-item-shared-slice-read-if1 t c = item-inside _ _ (c .before .before .before .pre .1 .1)
+
+run-item-number-requires : (t : ℕ) → run-item-lts.Need-number-requires (run-item-claims t) (run-item-at t) run-item.Post run-item-Inv-loop run-item-μ-loop
+run-item-number-requires t c κs = (omega arith, omega arith, omega arith)
+
+run-item-enum-known-value : (t : ℕ) → run-item-lts.Need-enum-known-value (run-item-claims t) (run-item-at t) run-item.Post run-item-Inv-loop run-item-μ-loop
+run-item-enum-known-value t c = search needs
+
+run-item-enum-told : (t : ℕ) → run-item-lts.Need-enum-told (run-item-claims t) (run-item-at t) run-item.Post run-item-Inv-loop run-item-μ-loop
+run-item-enum-told t c = search needs
+
+run-item-returns : (t : ℕ) → run-item-lts.Need-returns (run-item-claims t) (run-item-at t) run-item.Post run-item-Inv-loop run-item-μ-loop
+run-item-returns t c = no-number _ _ _ _ (c .before .before .before .if1 .taken) _ (c .before .before .number .ensures) _ (c .enum-told .given .1)
+
+run-item-cast-step-on : (t : ℕ) → run-item-lts.Need-cast-step-on (run-item-claims t) (run-item-at t) run-item.Post run-item-Inv-loop run-item-μ-loop
+run-item-cast-step-on t c = record { fits = omega (arith, number-inside _ _ _ _ _ (c .before .before .before .before .number .ensures .inside) _ _ (c .before .before .value .given .1) .3) }
+
+run-item-step-on-requires : (t : ℕ) → run-item-lts.Need-step-on-requires (run-item-claims t) (run-item-at t) run-item.Post run-item-Inv-loop run-item-μ-loop
+run-item-step-on-requires t c κs = c .before .before .before .before .before .before .before .before .before .pre .1 .0
+
+run-item-taken-requires : (t : ℕ) → run-item-lts.Need-taken-requires (run-item-claims t) (run-item-at t) run-item.Post run-item-Inv-loop run-item-μ-loop
+run-item-taken-requires t c κs = tt
+
+run-item-same-length : (t : ℕ) → run-item-lts.Need-same-length (run-item-claims t) (run-item-at t) run-item.Post run-item-Inv-loop run-item-μ-loop
+run-item-same-length t c = search needs
+
+run-item-returns-2 : (t : ℕ) → run-item-lts.Need-returns-2 (run-item-claims t) (run-item-at t) run-item.Post run-item-Inv-loop run-item-μ-loop
+run-item-returns-2 t c = one-step _ _ _ _ (c .before .before .before .before .before .before .before .before .before .if1 .taken) _ (c .before .before .before .before .before .before .before .before .number .ensures) _ _ (c .before .before .before .before .before .before .value .given .1) _ (c .before .before .before .step-on .ensures) _ (c .taken .ensures)
+
+run-item-times-requires : (t : ℕ) → run-item-lts.Need-times-requires (run-item-claims t) (run-item-at t) run-item.Post run-item-Inv-loop run-item-μ-loop
+run-item-times-requires t c κs = tt
+
+run-item-enum-known-value-2 : (t : ℕ) → run-item-lts.Need-enum-known-value-2 (run-item-claims t) (run-item-at t) run-item.Post run-item-Inv-loop run-item-μ-loop
+run-item-enum-known-value-2 t c = search needs
+
+run-item-enum-told-2 : (t : ℕ) → run-item-lts.Need-enum-told-2 (run-item-claims t) (run-item-at t) run-item.Post run-item-Inv-loop run-item-μ-loop
+run-item-enum-told-2 t c = search needs
+
+run-item-returns-3 : (t : ℕ) → run-item-lts.Need-returns-3 (run-item-claims t) (run-item-at t) run-item.Post run-item-Inv-loop run-item-μ-loop
+run-item-returns-3 t c = no-times _ _ _ (c .before .before .before .if1 .left) _ (c .before .before .times .ensures) _ _ (c .enum-told2 .given .1)
+
+run-item-loop-holds : (t : ℕ) → run-item-lts.Need-loop-holds (run-item-claims t) (run-item-at t) run-item.Post run-item-Inv-loop run-item-μ-loop
+run-item-loop-holds t c = rounds-begin _ _ _ (c .before .before .before .before .if1 .left) _ (c .before .before .before .times .ensures) _ _ (c .before .value2 .given .1) (c .before .before .before .before .before .before .before .before .pre .1 .1) (c .before .before .before .before .before .before .before .before .pre .1 .0)
+
+run-item-run-items-requires : (t : ℕ) → run-item-lts.Need-run-items-requires (run-item-claims t) (run-item-at t) run-item.Post run-item-Inv-loop run-item-μ-loop
+run-item-run-items-requires t c κs = (falls-to _ _ _ _ (c .before .before .before .before .before .before .before .before .before .before .before .pre .0) (times-behind _ _ _ _ _ (c .before .before .before .before .before .before .times .ensures) (c .before .before .before .before .value2 .given .1)) (item-inside _ _ (c .before .before .before .before .before .before .before .before .before .before .before .pre .1 .1)), (c .before .before .loop .inv .sound, round-reads _ _ _ _ _ _ _ _ (c .before .before .loop .inv) (omega arith)))
+
+run-item-add-total : (t : ℕ) → run-item-lts.Need-add-total (run-item-claims t) (run-item-at t) run-item.Post run-item-Inv-loop run-item-μ-loop
+run-item-add-total t c = record { fits = omega (arith, round-fits _ _ _ _ _ _ _ _ (c .before .before .before .before .before .before .loop .inv) (omega arith) _ _ (c .before .before .before .run-items .ensures)) }
+
+run-item-add-i : (t : ℕ) → run-item-lts.Need-add-i (run-item-claims t) (run-item-at t) run-item.Post run-item-Inv-loop run-item-μ-loop
+run-item-add-i t c = search needs
+
+run-item-loop-less : (t : ℕ) → run-item-lts.Need-loop-less (run-item-claims t) (run-item-at t) run-item.Post run-item-Inv-loop run-item-μ-loop
+run-item-loop-less t c = omega arith
+
+run-item-loop-again : (t : ℕ) → run-item-lts.Need-loop-again (run-item-claims t) (run-item-at t) run-item.Post run-item-Inv-loop run-item-μ-loop
+run-item-loop-again t c = round-more _ _ _ _ _ _ _ _ (c .before .before .before .before .before .before .loop .inv) (omega arith) _ _ (c .before .before .before .run-items .ensures)
+
+run-item-same-length-2 : (t : ℕ) → run-item-lts.Need-same-length-2 (run-item-claims t) (run-item-at t) run-item.Post run-item-Inv-loop run-item-μ-loop
+run-item-same-length-2 t c = c .before .loop .inv .len
+
+run-item-returns-4 : (t : ℕ) → run-item-lts.Need-returns-4 (run-item-claims t) (run-item-at t) run-item.Post run-item-Inv-loop run-item-μ-loop
+run-item-returns-4 t c = rounds-end _ _ _ (c .before .before .before .before .before .before .if1 .left) _ (c .before .before .before .before .before .times .ensures) _ _ (c .before .before .before .value2 .given .1) _ _ _ _ (c .before .loop .inv) (omega arith)
+
+abbrev run-items-Inv-loop : run-items-lts.InvT-loop
+run-items-Inv-loop board₀ line at total₀ place₀ board total place = Passed line at board₀ board total place
+
+abbrev run-items-μ-loop : run-items-lts.MeasureT-loop
+run-items-μ-loop board₀ line at total₀ place₀ board total place = length line - place
+
+run-items-loop-holds :
+    (t : ℕ) →
+    run-items-lts.Need-loop-holds (run-items-claims t) (run-items-at t) run-items.Post
+    run-items-Inv-loop
+    run-items-μ-loop
+run-items-loop-holds t c = passed-begin _ _ _ (c .before .before .pre .1 .1) (c .before .before .pre .1 .0)
+
+run-items-shared-slice-read-if1 : (t : ℕ) → run-items-lts.Need-shared-slice-read-if1 (run-items-claims t) (run-items-at t) run-items.Post run-items-Inv-loop run-items-μ-loop
+run-items-shared-slice-read-if1 t c = passed-inside _ _ _ _ _ _ (c .before .loop .inv)
+
+run-items-add-run-item : (t : ℕ) → run-items-lts.Need-add-run-item (run-items-claims t) (run-items-at t) run-items.Post run-items-Inv-loop run-items-μ-loop
+run-items-add-run-item t c = omega (arith, passed-inside _ _ _ _ _ _ (c .before .before .before .loop .inv))
+
+run-items-run-item-requires : (t : ℕ) → run-items-lts.Need-run-item-requires (run-items-claims t) (run-items-at t) run-items.Post run-items-Inv-loop run-items-μ-loop
+run-items-run-item-requires t c κs = (falls-to _ _ _ _ (c .before .before .before .before .before .before .pre .0) (omega (arith, c .before .before .before .loop .inv .behind)) (omega (arith, c .before .before .before .loop .inv .behind, passed-inside _ _ _ _ _ _ (c .before .before .before .loop .inv))), (c .before .before .before .loop .inv .sound, item-reads _ _ _ _ _ _ (c .before .before .before .loop .inv) (c .before .if1 .taken)))
+
+run-items-add-total :
+    (t : ℕ) →
+    run-items-lts.Need-add-total (run-items-claims t) (run-items-at t) run-items.Post
+    run-items-Inv-loop
+    run-items-μ-loop
+run-items-add-total t c = record { fits = omega (arith, passed-fits _ _ _ _ _ _ (c .before .before .before .before .before .before .before .loop .inv) (c .before .before .before .before .before .if1 .taken) _ _ (c .before .before .before .run-item .ensures)) }
+
+run-items-loop-less :
+    (t : ℕ) →
+    run-items-lts.Need-loop-less (run-items-claims t) (run-items-at t) run-items.Post
+    run-items-Inv-loop
+    run-items-μ-loop
+run-items-loop-less t c = omega (arith, passed-inside _ _ _ _ _ _ (c .before .before .before .before .before .before .before .loop .inv), passed-behind _ _ _ _ _ _ (c .before .before .before .before .before .before .before .loop .inv) (c .before .before .before .before .before .if1 .taken) _ _ (c .before .before .before .run-item .ensures))
+
+run-items-loop-again :
+    (t : ℕ) →
+    run-items-lts.Need-loop-again (run-items-claims t) (run-items-at t) run-items.Post
+    run-items-Inv-loop
+    run-items-μ-loop
+run-items-loop-again t c = passed-more _ _ _ _ _ _ (c .before .before .before .before .before .before .before .loop .inv) (c .before .before .before .before .before .if1 .taken) _ _ (c .before .before .before .run-item .ensures)
+
+run-items-add-t13 :
+    (t : ℕ) →
+    run-items-lts.Need-add-t13 (run-items-claims t) (run-items-at t) run-items.Post
+    run-items-Inv-loop
+    run-items-μ-loop
+run-items-add-t13 t c = omega (arith, passed-inside _ _ _ _ _ _ (c .before .before .loop .inv))
+
+run-items-same-length :
+    (t : ℕ) →
+    run-items-lts.Need-same-length (run-items-claims t) (run-items-at t) run-items.Post
+    run-items-Inv-loop
+    run-items-μ-loop
+run-items-same-length t c = c .before .before .loop .inv .len
+
+run-items-returns :
+    (t : ℕ) →
+    run-items-lts.Need-returns (run-items-claims t) (run-items-at t) run-items.Post
+    run-items-Inv-loop
+    run-items-μ-loop
+run-items-returns t c = passed-end _ _ _ _ _ _ (c .before .before .loop .inv) (c .if1 .left)
+
+pub +run-item+run-items-spec : {M : Type 1} → statement M
++run-item+run-items-spec = close μ-run-item μ-run-items (λ t. run-item-lts.spec (run-item-claims t)
+    (run-item-at t)
+    run-item.Post
+    run-item-Inv-loop
+    run-item-μ-loop
+    (run-item-shared-slice-read-if1 t)
+    (run-item-number-requires t)
+    (run-item-enum-known-value t)
+    (run-item-enum-told t)
+    (run-item-returns t)
+    (run-item-cast-step-on t)
+    (run-item-step-on-requires t)
+    (run-item-taken-requires t)
+    (run-item-same-length t)
+    (run-item-returns-2 t)
+    (run-item-times-requires t)
+    (run-item-enum-known-value-2 t)
+    (run-item-enum-told-2 t)
+    (run-item-returns-3 t)
+    (run-item-loop-holds t)
+    (run-item-run-items-requires t)
+    (run-item-add-total t)
+    (run-item-add-i t)
+    (run-item-loop-less t)
+    (run-item-loop-again t)
+    (run-item-same-length-2 t)
+    (run-item-returns-4 t))
+    λ t. run-items-lts.spec
+    (run-items-claims t)
+    (run-items-at t)
+    run-items.Post
+    run-items-Inv-loop
+    run-items-μ-loop
+    (run-items-loop-holds t)
+    (run-items-shared-slice-read-if1 t)
+    (run-items-add-run-item t)
+    (run-items-run-item-requires t)
+    (run-items-add-total t)
+    (run-items-loop-less t)
+    (run-items-loop-again t)
+    (run-items-add-t13 t)
+    (run-items-same-length t)
+    (run-items-returns t)

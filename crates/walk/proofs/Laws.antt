@@ -1,0 +1,5 @@
+-- Laws of the walk, by subject.
+pub mod Fuel
+pub mod Walking
+pub mod Passing
+pub mod Counting

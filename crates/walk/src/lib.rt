@@ -1,0 +1,89 @@
+// The items of a `steps` line, run as they stand in the line: a list of items and an item call each other, as their readers
+// do, so that no buffer holds the steps and the stack is bounded by the depth of the brackets.
+// Relies on the step of a sound board and on the readers of numbers and of `times`; the player of a line relies on it.
+ghost use mathlib.Core.Path.{_≡_};
+ghost use mathlib.Core.Option.{none};
+ghost use Rattle.model.specs.Calls.{boardRefusal};
+ghost use Rattle.walk.specs.Walks.{ItemReads, ItemsRead, ItemWalks, ItemsWalk, LineCounts, RunsLine};
+use lexer::number::FoundNumber;
+use lexer::number::number;
+use model::RunVerdict;
+use model::Verdict;
+use sheet::item::times;
+use soundness::board::check_board;
+use stepping::running::taken;
+use stepping::sound_step::step_on;
+
+// The steps taken, and the place after the items.
+pub struct Walked {
+    pub taken: u32,
+    pub next: usize,
+}
+
+fn run_item(board: &mut [u8], line: &[u8], at: usize) -> Walked
+    requires { ⌜ (boardRefusal (now board) none ≡ none) × ItemReads (now line) at ⌝ }
+    ensures { λ r. ⌜ ItemWalks (now (line .entry)) at (now (board .entry)) r (now (board .exit)) ⌝ }
+{
+    if line[at] != b'(' {
+        let FoundNumber::At { value, next } = number(line, at, 0, 99) else {
+            return Walked { taken: 0, next: at };
+        };
+        let answer = step_on(board, value as u8);
+        return Walked {
+            taken: taken(answer),
+            next,
+        };
+    }
+    let FoundNumber::At { value, next: inner } = times(line, at) else {
+        return Walked { taken: 0, next: at };
+    };
+    let mut total: u32 = 0;
+    let mut next = inner;
+    let mut i = 0;
+    while i < value {
+        let walked = run_items(board, line, inner);
+        total += walked.taken;
+        next = walked.next;
+        i += 1;
+    }
+    Walked { taken: total, next }
+}
+
+// The items from `at` on, up to the closing bracket.
+pub fn run_items(board: &mut [u8], line: &[u8], at: usize) -> Walked
+    requires { ⌜ (boardRefusal (now board) none ≡ none) × ItemsRead (now line) at ⌝ }
+    ensures { λ r. ⌜ ItemsWalk (now (line .entry)) at (now (board .entry)) r (now (board .exit)) ⌝ }
+{
+    let mut total: u32 = 0;
+    let mut place = at;
+    while line[place] == b' ' {
+        let walked = run_item(board, line, place + 1);
+        total += walked.taken;
+        place = walked.next;
+    }
+    Walked {
+        taken: total,
+        next: place + 1,
+    }
+}
+
+// A line that was read as `steps` with that count, on a lent board.
+pub fn run_line(board: &mut [u8], line: &[u8], count: u32) -> RunVerdict
+    requires { ⌜ LineCounts (now line) count ⌝ }
+    ensures { λ r. ⌜ RunsLine (now (line .entry)) (now (board .entry)) r (now (board .exit)) ⌝ }
+{
+    if 65536 < count {
+        return RunVerdict::Refused { number: 6 };
+    }
+    let checked = check_board(board);
+    match checked {
+        Verdict::Refused { number } => RunVerdict::Refused { number },
+        Verdict::Accepted => {
+            let walked = run_items(board, line, 6);
+            RunVerdict::Ran {
+                taken: walked.taken,
+                passed: count - walked.taken,
+            }
+        }
+    }
+}
