@@ -1,10 +1,11 @@
--- A word as the code names it, and where it ends.
+-- A word as the code names it, where it ends, and the part of a line that it is.
 -- Relies on the model's words; the contracts of words rely on it.
 use mathlib.Core.Path.{_≡_}
 use mathlib.Core.List.{List}
 use mathlib.Core.Option.{Option, none, some}
-use Prim.Native.Nat.{ℕ, _≤_, _-_}
+use Prim.Native.Nat.{ℕ, _+_, _≤_, _<_, _-_}
 use lib.ListN.{length, take, drop}
+use denote.Ref.{RefT}
 use Rattle.model.specs.Forms.{Word, boardWord, proposeWord, stepsWord, showWord, wordOf, upToStop}
 use Rattle.lexer.specs.declared.word.FormWord.the-variants.{Board, Propose, Steps, Show}
 use Rattle.lexer.specs.declared.word.Named.{Named}
@@ -25,3 +26,9 @@ pub record WordEnd (line : List ℕ) (r : ℕ) : Type 0 where
   pub behind : 1 ≤ r
   pub inside : r ≤ length line
   pub word : take (r - 1) (drop 1 line) ≡ upToStop (drop 1 line)
+
+-- "the part of the line it occupies": the bytes w, which stand behind the line's first byte. "an empty part if there is none"
+-- has no place.
+pub record PartIs (line part : RefT (List ℕ)) (w : List ℕ) : Type 0 where
+  pub bytes : part .now ≡ w
+  pub place : 0 < length (part .now) → (part .ptr .0 ≡ line .ptr .0) × (part .ptr .1 ≡ line .ptr .1 + 1)

@@ -4,7 +4,7 @@ ghost use mathlib.Core.Path.{_≡_};
 ghost use Prim.Native.Nat.{_≤_, _<_};
 ghost use lib.ListN.{length};
 ghost use Rattle.model.specs.Forms.{firstWord, formWord};
-ghost use Rattle.lexer.specs.Words.{WordEnd, named};
+ghost use Rattle.lexer.specs.Words.{WordEnd, PartIs, named};
 use check::same;
 
 pub enum FormWord {
@@ -43,7 +43,7 @@ fn word_end(line: &[u8]) -> usize
 
 // The bytes that stand where a form's word would.
 pub fn first_word(line: &[u8]) -> &[u8]
-    ensures { λ r. ⌜ now r ≡ firstWord (now (line .entry)) ⌝ }
+    ensures { λ r. ⌜ PartIs (line .entry) r (firstWord (now (line .entry))) ⌝ }
 {
     if line.len() == 0 {
         return &line[..0];
@@ -83,7 +83,7 @@ pub fn form_named(word: &[u8]) -> Named
 
 // The word that names the line's form, or an empty part.
 pub fn form_word(line: &[u8]) -> &[u8]
-    ensures { λ r. ⌜ now r ≡ formWord (now (line .entry)) ⌝ }
+    ensures { λ r. ⌜ PartIs (line .entry) r (formWord (now (line .entry))) ⌝ }
 {
     let word = first_word(line);
     let Named::Form { word: _ } = form_named(word) else {

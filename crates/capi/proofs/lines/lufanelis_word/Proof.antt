@@ -10,16 +10,16 @@ form-word-requires : tie.Need-form-word-requires
 form-word-requires c κs = search needs
 
 returns : tie.Need-returns
-returns c = word-none _ _ (c .before .form-word .ensures) (c .if1 .taken)
+returns c = word-none _ _ (c .before .form-word .ensures .bytes) (c .if1 .taken)
 
 mul-result : tie.Need-mul-result
-mul-result c = record { fits = omega (arith, word-fits _ _ (c .before .form-word .ensures)) }
+mul-result c = record { fits = omega (arith, word-fits _ _ (c .before .form-word .ensures .bytes)) }
 
 add-result : tie.Need-add-result
-add-result c = record { fits = omega (arith, word-fits _ _ (c .before .form-word .ensures)) }
+add-result c = record { fits = omega (arith, word-fits _ _ (c .before .form-word .ensures .bytes)) }
 
 returns-2 : tie.Need-returns-2
-returns-2 c = word-some _ _ (c .before .form-word .ensures) (c .if1 .left)
+returns-2 c = word-some _ _ (c .before .form-word .ensures .bytes) (c .if1 .left)
 
 pub lufanelis-word-spec : {M : Type 1} → statement M
 lufanelis-word-spec =
