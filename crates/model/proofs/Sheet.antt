@@ -7,4 +7,5 @@ pub mod Written
 pub mod WrittenBack
 pub mod Lines
 pub mod Calls
+pub mod Fits
 pub mod Limits

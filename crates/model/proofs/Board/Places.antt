@@ -99,3 +99,8 @@ registers-apart n a i b j hi hj f = go (compared (rowOf a) (rowOf b)) (compared 
     go (equal e) (lower h) = inl (omega (arith, ap (λ (r : ℕ). n * r) e))
     go (equal e) (higher h) = inr (omega (arith, ap (λ (r : ℕ). n * r) e))
     go (equal e) (equal k) = absurd (f (row-injective a b e, k))
+
+-- "72 for n = 1, K = 2; 200 for 3, 2; 16,904 for 16, 64"
+pub lengths : (boardLength 1 2 ≡ 72) × (boardLength 3 2 ≡ 200) × (boardLength 16 64 ≡ 16904)
+unfolding boardLength
+lengths = (refl, refl, refl)

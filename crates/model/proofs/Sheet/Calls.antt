@@ -79,13 +79,13 @@ unfoldable pub boardOf : Played → List ℕ
 boardOf p = take (p .laid) (p .memory)
 
 -- what holds between the lines: the memory begins with a board of n and K that a list of calls may have left
-record Stands (n K : ℕ) (p : Played) : Type 0 where
-  is-laid : p .laid ≡ boardLength n K
-  room : boardLength n K ≤ length (p .memory)
-  held : Held n K (boardOf p)
+pub record Stands (n K : ℕ) (p : Played) : Type 0 where
+  pub is-laid : p .laid ≡ boardLength n K
+  pub room : boardLength n K ≤ length (p .memory)
+  pub held : Held n K (boardOf p)
 
 module _ (n K : ℕ) where
-  not-none : (laid : ℕ) → laid ≡ boardLength n K → laid ≡ 0 → ⊥
+  pub not-none : (laid : ℕ) → laid ≡ boardLength n K → laid ≡ 0 → ⊥
   unfolding boardLength
   not-none laid e f = omega arith
 
@@ -94,7 +94,7 @@ module _ (n K : ℕ) where
 
   -- one line: the laid board is as its calls leave it
   module _ (p : Played) (s : Stands n K p) (l : List ℕ) (r : Reading) (stays : Stays (p .memory) r) (stood : LineStood l r) where
-    line : (playReading (p .laid) (p .memory) r .laid ≡ p .laid)
+    pub line : (playReading (p .laid) (p .memory) r .laid ≡ p .laid)
         × (playReading (p .laid) (p .memory) r .memory ≡ after (callsOf r) (boardOf p) ++ drop (p .laid) (p .memory))
     unfolding boardOf
     line = line-leaves (p .laid) (p .memory) (not-none (p .laid) (s .is-laid)) r stays
@@ -102,14 +102,14 @@ module _ (n K : ℕ) where
     after-held : Held n K (after (callsOf r) (boardOf p))
     after-held = held-after n K (callsOf r) (boardOf p) (s .held) (calls-allowed l r (boardOf p) stood)
 
-    after-length : length (after (callsOf r) (boardOf p)) ≡ p .laid
+    pub after-length : length (after (callsOf r) (boardOf p)) ≡ p .laid
     after-length = held-length _ after-held ∙ sym (s .is-laid)
 
     board-after : boardOf (playReading (p .laid) (p .memory) r) ≡ after (callsOf r) (boardOf p)
     unfolding boardOf
     board-after = (λ j. take (line .0 j) (line .1 j)) ∙ take-at _ _ (p .laid) after-length
 
-    stands-after : Stands n K (playReading (p .laid) (p .memory) r)
+    pub stands-after : Stands n K (playReading (p .laid) (p .memory) r)
     stands-after = record {
       is-laid = line .0 ∙ s .is-laid;
       room = omega (arith, ap length (line .1), length-append (after (callsOf r) (boardOf p)) (drop (p .laid) (p .memory)), after-length, s .is-laid);
@@ -144,22 +144,22 @@ laid-fresh n K b =
 
 module _ (laid : ℕ) (m : List ℕ) (n K : ℕ) (ok : lay n K (take (boardLength n K) m) .answer ≡ none) where
   -- the `board` line leaves the board as the laying leaves it
-  line-lays : playBoard laid m n K
+  pub line-lays : playBoard laid m n K
       ≡ (record { printed = laidText n K; laid = boardLength n K; memory = lay n K (take (boardLength n K) m) .bytes ++ drop (boardLength n K) m })
   unfolding playBoard
   line-lays = rw ok
 
-  fresh : Shape n K (take (boardLength n K) m) × (lay n K (take (boardLength n K) m) .bytes ≡ freshBoard n K)
+  pub fresh : Shape n K (take (boardLength n K) m) × (lay n K (take (boardLength n K) m) .bytes ≡ freshBoard n K)
   fresh = laid-fresh n K (take (boardLength n K) m) ok
 
-  laid-length : length (lay n K (take (boardLength n K) m) .bytes) ≡ boardLength n K
+  pub laid-length : length (lay n K (take (boardLength n K) m) .bytes) ≡ boardLength n K
   laid-length = ap length (fresh .1) ∙ length-fresh n K
 
   pub board-laid : boardOf (playBoard laid m n K) ≡ lay n K (take (boardLength n K) m) .bytes
   unfolding boardOf
   board-laid = ap boardOf line-lays ∙ take-at _ _ (boardLength n K) laid-length
 
-  start : Stands n K (playBoard laid m n K)
+  pub start : Stands n K (playBoard laid m n K)
   start = record {
     is-laid = ap (λ (p : Played). p .laid) line-lays;
     room = omega (arith, ap (λ (p : Played). length (p .memory)) line-lays, length-append (lay n K (take (boardLength n K) m) .bytes) (drop (boardLength n K) m), laid-length);

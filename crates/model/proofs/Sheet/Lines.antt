@@ -108,7 +108,7 @@ module _ (laid : ℕ) (m : List ℕ) where
   board-refused n K k e = rw e
 
   module _ (on : laid ≡ 0 → ⊥) where
-    on-board : {A : Type 0} (say : A → List ℕ) (call : List ℕ → After A)
+    pub on-board : {A : Type 0} (say : A → List ℕ) (call : List ℕ → After A)
         → onBoard laid m say call ≡ (record { printed = say (call (take laid m) .answer); laid = laid; memory = call (take laid m) .bytes ++ drop laid m })
     unfolding onBoard
     on-board say call = rw (ne-eqb laid 0 on)
