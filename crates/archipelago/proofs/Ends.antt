@@ -14,7 +14,7 @@ use Rattle.model.specs.Layout.{seenNumber, bestIsland, bestFigure, seenOf, fiel
 use Rattle.model.specs.Listing.{flagNumber}
 use Rattle.model.specs.Told.{told}
 use Rattle.archipelago.specs.declared.Moved.{Moved}
-use Rattle.archipelago.specs.Collected.{collected, noting, withSeen, Kept, endedSeen}
+use Rattle.collect.specs.Collected.{collected, noting, withSeen, Kept, endedSeen}
 use Rattle.archipelago.specs.Advanced.{Advanced, Finishes, Written, decision, staying}
 
 -- ---- `ended`

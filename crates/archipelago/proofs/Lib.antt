@@ -1,7 +1,4 @@
 -- Laws that the proofs of the functions cite.
-pub mod Figures
-pub mod OneRead
-pub mod ReadB
 pub mod Ends
 pub mod Moves
 pub mod Ready

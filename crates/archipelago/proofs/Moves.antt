@@ -16,9 +16,9 @@ use Rattle.model.specs.Layout.{fields, flagByte, recordFields, recordValue, reg
 use Rattle.model.specs.Layout.{writingOf, readingOf, ofPhase}
 use Rattle.model.specs.Told.{told}
 use Rattle.archipelago.specs.declared.Moved.{Moved}
-use Rattle.archipelago.specs.Collected.{collected, noting, withSeen, Kept, seeing}
+use Rattle.collect.specs.Collected.{collected, noting, withSeen, Kept, seeing}
 use Rattle.archipelago.specs.Advanced.{Advanced, Written, Ready, Reads, Moves, MovesReading, Finishes, at, staying, passing, writing}
-use Rattle.archipelago.proofs.OneRead.{collected-with, kept-with}
+use Rattle.collect.proofs.OneRead.{collected-with, kept-with}
 
 -- ---- reads
 

@@ -14,7 +14,7 @@ use Rattle.model.specs.Listing.{Turn, Stage, reading, has-decided, active, deci
 use Rattle.model.specs.Layout.{recordFields, recordValue, registerFields, registerValue}
 use Rattle.model.specs.Told.{told}
 use Rattle.archipelago.specs.declared.Moved.{Moved}
-use Rattle.archipelago.specs.Collected.{collected}
+use Rattle.collect.specs.Collected.{collected}
 
 -- A record as `advance` takes it: of a station that is going, whose fields hold what its phase has a use for and nothing
 -- else. Every record of a sound board whose phase is 1 to 6 is ready (proofs/Ready.antt).

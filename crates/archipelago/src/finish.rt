@@ -1,13 +1,13 @@
 // The end of a collect, for each of the three arrays: the next phase, or the decision, or the end of the islands.
 // Relies on the crate's `Moved`; the reads rely on it.
 use crate::Moved;
-use crate::phase::ADOPT;
-use crate::phase::COMMIT;
 use crate::phase::DECIDED;
 use crate::phase::SPENT;
 use crate::phase::WRITE_A;
 use crate::phase::WRITE_B;
 use crate::phase::WRITE_M;
+use collect::marks::ADOPT;
+use collect::marks::COMMIT;
 use model::Record;
 use model::Register;
 use model::StepAnswer;
@@ -17,7 +17,7 @@ ghost use lib.Dec.{eqb};
 ghost use Rattle.model.specs.Layout.{fields};
 ghost use Rattle.model.specs.Listing.{nothing, turnM, turnA, turnB, Flag};
 ghost use Rattle.model.specs.Listing as listing;
-ghost use Rattle.archipelago.specs.Collected.{Kept, collected, withSeen, endedSeen};
+ghost use Rattle.collect.specs.Collected.{Kept, collected, withSeen, endedSeen};
 ghost use Rattle.archipelago.specs.Advanced.{Advanced, Finishes, decision, staying};
 
 pub fn stay(station: Record, answer: StepAnswer) -> Moved

@@ -1,11 +1,10 @@
 // The listing's one move on a station's fields: one access to one register. It sees no byte and no board.
-// Relies on the model's declared types; the step of a board relies on it.
-mod collect;
+// Relies on the model's declared types and on what a collect keeps; the step of a board relies on it.
 mod finish;
-mod order;
 mod phase;
 mod read;
 
+use collect::marks::WRITTEN;
 use model::Record;
 use model::Register;
 use model::StepAnswer;
@@ -14,7 +13,6 @@ use phase::READ_M;
 use phase::WRITE_A;
 use phase::WRITE_B;
 use phase::WRITE_M;
-use phase::WRITTEN;
 use read::read_a;
 use read::read_b;
 use read::read_m;

@@ -1,4 +1,4 @@
-// The phases of a record from its proposal on, and the marks of a register: in m and A that it is written, in B its flag.
+// The phases of a record from its proposal on.
 // Relies on nothing; every move relies on it.
 pub const WRITE_M: u8 = 1;
 
@@ -13,9 +13,3 @@ pub const WRITE_B: u8 = 5;
 pub const DECIDED: u8 = 7;
 
 pub const SPENT: u8 = 8;
-
-pub const WRITTEN: u8 = 1;
-
-pub const ADOPT: u8 = 1;
-
-pub const COMMIT: u8 = 2;

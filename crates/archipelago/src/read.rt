@@ -1,13 +1,13 @@
 // One read of a collect, for each of the three arrays: the register is added, and the last read ends the collect.
 // Relies on collect and finish; `advance` relies on it.
 use crate::Moved;
-use crate::collect::see_a;
-use crate::collect::see_b;
-use crate::collect::see_m;
 use crate::finish::finish_a;
 use crate::finish::finish_b;
 use crate::finish::finish_m;
 use crate::finish::stay;
+use collect::see_a;
+use collect::see_b;
+use collect::see_m;
 use model::Record;
 use model::Register;
 use model::StepAnswer;

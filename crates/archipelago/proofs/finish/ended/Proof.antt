@@ -1,5 +1,5 @@
 -- `finish::ended` meets its contract: each return is a law of Ends.
-use Rattle.archipelago.specs.Collected.{noting}
+use Rattle.collect.specs.Collected.{noting}
 use Rattle.model.proofs.Basics.Numbers.{landed}
 use Rattle.archipelago.proofs.Ends.{ended-nothing, ended-seen}
 use Rattle.archipelago.proofs.finish.ended.Statement.{statement}

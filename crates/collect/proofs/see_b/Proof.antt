@@ -1,11 +1,11 @@
--- `collect::see_b` meets its contract: each return is a law of OneRead or ReadB.
+-- `see_b` meets its contract: each return is a law of OneRead or ReadB.
 use borrow.Author.Needs.{needs}
 use Rattle.model.specs.Listing.{turnB}
 use Rattle.model.proofs.Basics.Numbers.{landed}
-use Rattle.archipelago.proofs.OneRead.{see-empty}
-use Rattle.archipelago.proofs.ReadB.{read-adopt, read-commit}
-use Rattle.archipelago.proofs.collect.see_b.Statement.{statement}
-use Rattle.archipelago.proofs.collect.see_b.Tie as tie
+use Rattle.collect.proofs.OneRead.{see-empty}
+use Rattle.collect.proofs.ReadB.{read-adopt, read-commit}
+use Rattle.collect.proofs.see_b.Statement.{statement}
+use Rattle.collect.proofs.see_b.Tie as tie
 
 returns : tie.Need-returns
 returns c = λ e. see-empty (turnB e) _ _ (c .before .before .pre) (c .if1 .taken)

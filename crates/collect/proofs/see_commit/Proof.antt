@@ -1,13 +1,13 @@
--- `collect::see_commit` meets its contract: each return is a law of ReadB.
+-- `see_commit` meets its contract: each return is a law of ReadB.
 use borrow.Author.Needs.{needs}
 use mathlib.Core.Path.{sym, _∙_}
 use mir.Facts.{toZ-ofZ}
 use Rattle.model.specs.Figure.{sameFigure}
 use Rattle.model.specs.Listing.{commit}
 use Rattle.model.proofs.Basics.Numbers.{landed}
-use Rattle.archipelago.proofs.ReadB.{commit-first, commit-beside, commit-same, commit-differs, third-stays}
-use Rattle.archipelago.proofs.collect.see_commit.Statement.{statement}
-use Rattle.archipelago.proofs.collect.see_commit.Tie as tie
+use Rattle.collect.proofs.ReadB.{commit-first, commit-beside, commit-same, commit-differs, third-stays}
+use Rattle.collect.proofs.see_commit.Statement.{statement}
+use Rattle.collect.proofs.see_commit.Tie as tie
 
 noted-requires : tie.Need-noted-requires
 noted-requires c κs = search needs

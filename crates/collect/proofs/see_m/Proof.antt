@@ -1,12 +1,12 @@
--- `collect::see_m` meets its contract: each return is a law of OneRead.
+-- `see_m` meets its contract: each return is a law of OneRead.
 use borrow.Author.Needs.{needs}
 use mathlib.Core.Path.{sym, _∙_}
 use Rattle.model.specs.Figure.{figures}
 use Rattle.model.specs.Listing.{turnM, pairAbove}
 use Rattle.model.proofs.Basics.Numbers.{landed}
-use Rattle.archipelago.proofs.OneRead.{see-empty, m-first, m-above, m-below}
-use Rattle.archipelago.proofs.collect.see_m.Statement.{statement}
-use Rattle.archipelago.proofs.collect.see_m.Tie as tie
+use Rattle.collect.proofs.OneRead.{see-empty, m-first, m-above, m-below}
+use Rattle.collect.proofs.see_m.Statement.{statement}
+use Rattle.collect.proofs.see_m.Tie as tie
 
 returns : tie.Need-returns
 returns c = see-empty turnM _ _ (c .before .before .pre) (c .if1 .taken)

@@ -8,8 +8,8 @@ use Rattle.model.specs.declared.Register as Fields
 use Rattle.model.specs.Figure.{Figure, figures, sameFigure}
 use Rattle.model.specs.Listing.{Flag, adopt, commit, turnB, first, second, third, Seen, nothing, seen, larger, add, flagOf}
 use Rattle.model.specs.Layout.{seenNumber, bestIsland, bestFigure, seenOf}
-use Rattle.archipelago.specs.Collected.{collected, noting, withSeen, Kept, seeing, Adds}
-use Rattle.archipelago.proofs.OneRead.{at-seen, added, see-filled}
+use Rattle.collect.specs.Collected.{collected, noting, withSeen, Kept, seeing, Adds}
+use Rattle.collect.proofs.OneRead.{at-seen, added, see-filled}
 
 -- ---- an adopt
 

@@ -2,8 +2,8 @@
 use lib.Signed.{ltZ}
 use mir.Facts.{toZ-ofZ}
 use Rattle.model.specs.Figure.{above}
-use Rattle.archipelago.proofs.order.above.Statement.{statement}
-use Rattle.archipelago.proofs.order.above.Tie as tie
+use Rattle.collect.proofs.order.above.Statement.{statement}
+use Rattle.collect.proofs.order.above.Tie as tie
 
 returns : tie.Need-returns
 unfolding above

@@ -1,14 +1,17 @@
 // One register added to what a collect has seen, for each of the three arrays. An empty register adds nothing.
-// Relies on the order; the reads rely on it.
-use crate::order::larger;
-use crate::order::pair_above;
-use crate::order::same;
-use crate::phase::ADOPT;
+// Relies on the model's declared types and on the order of figures; the listing's reads rely on it.
+pub mod marks;
+mod order;
+
+use marks::ADOPT;
 use model::Record;
 use model::Register;
+use order::larger;
+use order::pair_above;
+use order::same;
 ghost use mathlib.Core.Path.{_≡_};
 ghost use Rattle.model.specs.Listing.{Flag, turnM, turnA, turnB, adopt, commit};
-ghost use Rattle.archipelago.specs.Collected.{noting, Kept, seeing, Adds};
+ghost use Rattle.collect.specs.Collected.{noting, Kept, seeing, Adds};
 
 fn noted(station: Record, seen: u8, highest: u8, best: i32) -> Record
     ensures { λ r. ⌜ r ≡ noting station seen highest best ⌝ }

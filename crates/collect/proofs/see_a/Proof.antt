@@ -1,12 +1,12 @@
--- `collect::see_a` meets its contract: each return is a law of OneRead.
+-- `see_a` meets its contract: each return is a law of OneRead.
 use borrow.Author.Needs.{needs}
 use mathlib.Core.Path.{sym, _∙_}
 use Rattle.model.specs.Figure.{figures, sameFigure}
 use Rattle.model.specs.Listing.{turnA, larger}
 use Rattle.model.proofs.Basics.Numbers.{landed}
-use Rattle.archipelago.proofs.OneRead.{see-empty, a-first, a-same, a-differs, a-mixed}
-use Rattle.archipelago.proofs.collect.see_a.Statement.{statement}
-use Rattle.archipelago.proofs.collect.see_a.Tie as tie
+use Rattle.collect.proofs.OneRead.{see-empty, a-first, a-same, a-differs, a-mixed}
+use Rattle.collect.proofs.see_a.Statement.{statement}
+use Rattle.collect.proofs.see_a.Tie as tie
 
 returns : tie.Need-returns
 returns c = see-empty turnA _ _ (c .before .before .pre) (c .if1 .taken)

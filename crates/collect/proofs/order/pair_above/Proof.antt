@@ -5,8 +5,8 @@ use borrow.Author.Tests.{lt-ltb, le-ltb, eq-eqb, ne-eqb}
 use Rattle.model.specs.Listing.{pairAbove}
 use Rattle.model.specs.Figure.{figures, above}
 use mir.Facts.{toZ-ofZ}
-use Rattle.archipelago.proofs.order.pair_above.Statement.{statement}
-use Rattle.archipelago.proofs.order.pair_above.Tie as tie
+use Rattle.collect.proofs.order.pair_above.Statement.{statement}
+use Rattle.collect.proofs.order.pair_above.Tie as tie
 
 returns : tie.Need-returns
 unfolding pairAbove

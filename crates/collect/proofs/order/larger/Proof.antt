@@ -3,9 +3,9 @@ use borrow.Author.Needs.{needs}
 use mathlib.Core.Path.{sym, _∙_}
 use Rattle.model.specs.Figure.{above}
 use mir.Facts.{toZ-ofZ}
-use Rattle.archipelago.proofs.Figures.{larger-second, larger-first}
-use Rattle.archipelago.proofs.order.larger.Statement.{statement}
-use Rattle.archipelago.proofs.order.larger.Tie as tie
+use Rattle.collect.proofs.Figures.{larger-second, larger-first}
+use Rattle.collect.proofs.order.larger.Statement.{statement}
+use Rattle.collect.proofs.order.larger.Tie as tie
 
 above-requires : tie.Need-above-requires
 above-requires c κs = search needs

@@ -1,13 +1,13 @@
--- `collect::see_adopt` meets its contract: each return is a law of ReadB.
+-- `see_adopt` meets its contract: each return is a law of ReadB.
 use borrow.Author.Needs.{needs}
 use mathlib.Core.Path.{_∙_}
 use mir.Facts.{toZ-ofZ}
 use Rattle.model.specs.Figure.{figures}
 use Rattle.model.specs.Listing.{adopt, larger}
 use Rattle.model.proofs.Basics.Numbers.{landed}
-use Rattle.archipelago.proofs.ReadB.{adopt-first, adopt-more, adopt-beside, third-stays}
-use Rattle.archipelago.proofs.collect.see_adopt.Statement.{statement}
-use Rattle.archipelago.proofs.collect.see_adopt.Tie as tie
+use Rattle.collect.proofs.ReadB.{adopt-first, adopt-more, adopt-beside, third-stays}
+use Rattle.collect.proofs.see_adopt.Statement.{statement}
+use Rattle.collect.proofs.see_adopt.Tie as tie
 
 noted-requires : tie.Need-noted-requires
 noted-requires c κs = search needs

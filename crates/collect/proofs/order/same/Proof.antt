@@ -1,7 +1,7 @@
 -- `order::same` meets its contract: two figures in range are the same number exactly where their bits are.
-use Rattle.archipelago.proofs.Figures.{same-bits}
-use Rattle.archipelago.proofs.order.same.Statement.{statement}
-use Rattle.archipelago.proofs.order.same.Tie as tie
+use Rattle.collect.proofs.Figures.{same-bits}
+use Rattle.collect.proofs.order.same.Statement.{statement}
+use Rattle.collect.proofs.order.same.Tie as tie
 
 returns : tie.Need-returns
 returns c = same-bits (c .args .x) (c .args .y) (c .fits .x) (c .fits .y)

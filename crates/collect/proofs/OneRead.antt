@@ -1,5 +1,5 @@
 -- One read of a collect on a record's fields: what each branch of `see_m`, `see_a` and `see_b` leaves is what the listing's
--- `see` gives. Relies on Collected and the listing; the proofs of src/collect.rt and of the reads rely on it.
+-- `see` gives. Relies on Collected and the listing; the proofs of src/lib.rt and of the reads rely on it.
 use mathlib.Core.Path.{_≡_, refl, sym, ap, _∙_}
 use mathlib.Core.Bool.{Bool, true, false, cond}
 use Prim.Native.Nat.{ℕ, zero, suc}
@@ -10,7 +10,7 @@ use Rattle.model.specs.Listing.{Flag, Turn, turnM, turnA, first, second, third,
 use Rattle.model.specs.Listing.{Register, filled, larger, pairAbove, add, see, flagOf}
 use Rattle.model.specs.Layout.{seenNumber, bestIsland, bestFigure, seenOf, registerValue}
 use Rattle.model.proofs.Board.Codec.{marked-by}
-use Rattle.archipelago.specs.Collected.{collected, noting, withSeen, Kept, seeing}
+use Rattle.collect.specs.Collected.{collected, noting, withSeen, Kept, seeing}
 
 -- ---- the seen fields
 
