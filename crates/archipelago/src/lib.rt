@@ -1,5 +1,5 @@
 // The listing's one move on a station's fields: one access to one register. It sees no byte and no board.
-// Relies on the model's declared types and on what a collect keeps; the step of a board relies on it.
+// Relies on the model's declared types and on what a collect keeps; the stepper of a lent record relies on it.
 mod finish;
 mod phase;
 mod read;

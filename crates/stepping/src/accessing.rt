@@ -1,17 +1,17 @@
 // One step of one station: the register it touches, the listing's move, and what is put back.
-// Relies on the codec and on the listing's move; the public step and the run rely on it.
+// Relies on the codec and on the stepper of a lent record; the public step and the run rely on it.
 ghost use mathlib.Core.Path.{_≡_};
 ghost use Prim.Native.Nat.{_≤_, _<_};
 ghost use Rattle.model.specs.Layout.{recordAt};
 ghost use Rattle.archipelago.specs.Advanced.{Ready};
 ghost use Rattle.stepping.specs.Stepped.{Touches, Accesses, OnSize};
-use archipelago::advance;
 use codec::places::register_offset;
 use codec::records::put_record;
 use codec::registers::put_register;
 use codec::registers::register_at;
 use model::Record;
 use model::StepAnswer;
+use stepper::move_station;
 
 // The offset of the one register that the station with index j touches next: its own when it writes, the next position
 // when it reads.
@@ -46,7 +46,7 @@ pub fn access(board: &mut [u8], n: u8, k: u8, j: usize, at: usize, station: Reco
     ensures { λ r. ⌜ Accesses n k j station (now (board .entry)) r (now (board .exit)) ⌝ }
 {
     let place = touched(n, k, j, station);
-    let moved = advance(n, k, station, register_at(board, place));
+    let moved = move_station(n, k, station, register_at(board, place));
     if moved.writes {
         put_register(board, place, moved.register);
         put_record(board, at, moved.station);

@@ -1,5 +1,5 @@
 -- An accepted step: where it reads and writes lies on the board, and what is put back is what the model's access puts.
--- Relies on Touching, on the promise of `advance` and on the model's access; the proof of `access` relies on it.
+-- Relies on Touching, on the promise of `move_station` and on the model's access; the proof of `access` relies on it.
 use mathlib.Core.Path.{_≡_, refl, sym, ap, _∙_, subst}
 use mathlib.Core.Bool.{true, false}
 use mathlib.Core.List.{List}

@@ -1,5 +1,5 @@
 -- Runs put together of runs: of no station, of one, and of one list after another; a run keeps the board sound and its length.
--- Relies on the model's runs; the player of run sheets relies on it, whose items are run one after another.
+-- Relies on the model's runs; the walk over items relies on it, which runs them one after another.
 use mathlib.Core.Path.{_≡_, refl, sym, ap, _∙_, subst}
 use mathlib.Core.Bool.{cond}
 use mathlib.Core.List.{List, [], _∷_, _++_}

@@ -1,0 +1,2 @@
+-- What the walks of the functions share.
+pub mod Walking

@@ -1,0 +1,2 @@
+-- The definition that the contract of the lent record cites.
+pub mod InPlace
