@@ -1,6 +1,16 @@
 -- What the walks of `advance_record` and of `move_station` share: plain data by value in a walk, the arguments that both hand
 -- on, and a move taken apart and put together. Relies on the laws that the check makes of each declared type; the two
 -- walks rely on it. Nothing here counts the fields of a `Record`.
+--
+-- The words of a walk. Its context is a list of what is had; each step changes the list or goes one statement on.
+--     fat, froom           a cell with its value; a cell without
+--     flft κ q             the share q of the token of the lifetime κ, which has to be had while κ lasts
+--     fbor, fobor          a borrow, shut and open: only an open one gives the cell behind a reference
+--     fobs, fauth          the two halves of a ghost variable: which value is behind a reference. Together they change it
+--     flent, fres          what gives a lender its memory back once the lifetime is over, and at which last value
+--     move, drop, keep     the entries named come first; the first is let go; all but those named are let go
+--     use0 .. use3         the first 0 to 3 entries become another, by a law
+--     assigns; calls-at, land; returns     a statement of the code, with for each operand and place the entry that it is found in
 use mathlib.Core.Path.{_≡_, refl, ap}
 use Prim.Native.Nat.{ℕ, _+_, _-_, _*_, _<_, _^_}
 use mathlib.Core.List.{[], _∷_, List}
@@ -10,16 +20,17 @@ use lib.Dec.{T as Holds}
 use mir.Syntax.{Body, Place, w8, place, copy, rvOpd, assign}
 use mir.Val.{Val, WT, hasTy, vint}
 use base.Logic.{ent, emp, guard}
-use base.Fml.{fsep, fat}
-use prog.Wp.{Heap}
+use base.Fml.{Share, fsep, fat}
+use prog.Wp.{Heap, Env, spotOf}
 use ghost.Atoms.{Atoms, sem}
-use types.Kit.{Given, ‵, _$_, _∵_, !, qed, move, drop, use0, use1, rewrite, check, fsplit, fjoin, fpick, fpack, done}
+use types.Kit.{Given, Item, ‵, nth, Goal, Seq, Step, _$_, _∵_, !, qed, move, drop, use0, use1, check, fsplit, fjoin, fpick, fpack, done}
+use types.Run.{Opd, look, stop, from, load}
 use denote.RattleType.{RattleType, owns}
 use denote.Laws.{Is, shows}
 use denote.Memory.{mem, cellAt, partOf}
 use denote.Plain.{uint-makes}
 use denote.Builtin.{u8}
-use denote.Steps.{only, owned, peeks, nothing}
+use denote.Steps.{only, owned, peeks, facts, nothing}
 use denote.Struct.Steps.{spelt}
 use denote.Struct.Struct.{Plains, layout}
 use denote.Struct.Declared.{Declared, fields, shape, row}
@@ -113,6 +124,21 @@ module _ (K : Kind) where
         move ! (1 ∷ []) $ peeks ! the-row (Is the-row) (shows 𝓤 H A the-row) d (val d ∷ []) (λ is. drop ! $
         use1 W (‵ (fat fullShare (layout (shape (K .type))) b o (val d))) (W .laws .raw-at fullShare (layout (shape (K .type))) b o (val d)) $ check ! is $ done !))
 
+-- ---- steps that both walks take
+
+module _ {M : Type 1} {𝓤 : URA M} {H : Heap 𝓤} {A : Atoms 𝓤} {M′ : Type 0} {W : Given 𝓤 H A} {Γ : List (Item 𝓤)} where
+  -- an operand that copies a local whole, whose cell is entry e of the context
+  pub whole-of : M′ → (e : ℕ) {E : Env 𝓤 H} {i : ℕ} {q : Share} {v : Val} → nth 𝓤 H A e Γ ≡ ‵ (fat q (spotOf 𝓤 H E i .0) (spotOf 𝓤 H E i .1) (spotOf 𝓤 H E i .2) v) → Opd M′ W Γ E (copy (place i [])) v
+  whole-of t e same = load t (from t (stop t)) (look t e same)
+
+  module _ {G : Goal 𝓤 H} where
+    -- what a value of plain data owns is let go for what it tells, and is had for nothing where that is known
+    pub tells : M′ → (K : Kind) (d : Value K) (v : Val) → (Known K d v → Seq M′ W Γ G) → Seq M′ W (‵ (the-row K .own d (v ∷ [])) ∷ Γ) G
+    tells t K d v k = facts t (the-row K) (Is (the-row K)) (shows 𝓤 H A (the-row K)) d (v ∷ []) k
+
+    pub has : M′ → (K : Kind) (d : Value K) → Known K d (val K d) → Step M′ W (‵ (the-row K .own d (val K d ∷ [])) ∷ Γ) G Γ G
+    has t K d is = use0 W (‵ (the-row K .own d (val K d ∷ []))) (free K 𝓤 H A W d (val K d) is)
+
 -- ---- a move is the record of the station and the access
 
 abbrev pub access-of : Moved → Access
@@ -138,12 +164,11 @@ module _ {M : Type 1} (𝓤 : URA M) (H : Heap 𝓤) (A : Atoms 𝓤) (W : Given
   -- what a signature's parameters own, where they are these after a reference, and where the record stands before the register
   pub owns-handed : ent 𝓤 (emp 𝓤) (sem 𝓤 H A (owns (u8 ∷ u8 ∷ Reg.the-row ∷ []) (n, (k, (g, tt))) (vint w8 n ∷ [], (vint w8 k ∷ [], (val register-kind g ∷ [], tt)))))
   owns-handed =
-      qed W [] ∵ nothing ! $ use0 W (‵ (Reg.the-row .own g (val register-kind g ∷ []))) (free register-kind 𝓤 H A W g (val register-kind g) (h .g-known)) $ fjoin ! $
+      qed W [] ∵ nothing ! $ has ! register-kind g (h .g-known) $ fjoin ! $
       owned ! u8 (Is u8) (uint-makes 𝓤 H A W w8) k _ (refl, h .k-fits) $ fjoin ! $ owned ! u8 (Is u8) (uint-makes 𝓤 H A W w8) n _ (refl, h .n-fits) $ fjoin ! $ done !
 
   pub owns-with-record : (f : Record) → Known record-kind f (val record-kind f)
       → ent 𝓤 (emp 𝓤) (sem 𝓤 H A (owns (u8 ∷ u8 ∷ Rec.the-row ∷ Reg.the-row ∷ []) (n, (k, (f, (g, tt)))) (vint w8 n ∷ [], (vint w8 k ∷ [], (val record-kind f ∷ [], (val register-kind g ∷ [], tt))))))
   owns-with-record f f-known =
-      qed W [] ∵ nothing ! $ use0 W (‵ (Reg.the-row .own g (val register-kind g ∷ []))) (free register-kind 𝓤 H A W g (val register-kind g) (h .g-known)) $ fjoin ! $
-      use0 W (‵ (Rec.the-row .own f (val record-kind f ∷ []))) (free record-kind 𝓤 H A W f (val record-kind f) f-known) $ fjoin ! $
+      qed W [] ∵ nothing ! $ has ! register-kind g (h .g-known) $ fjoin ! $ has ! record-kind f f-known $ fjoin ! $
       owned ! u8 (Is u8) (uint-makes 𝓤 H A W w8) k _ (refl, h .k-fits) $ fjoin ! $ owned ! u8 (Is u8) (uint-makes 𝓤 H A W w8) n _ (refl, h .n-fits) $ fjoin ! $ done !

@@ -38,8 +38,9 @@ pub fn move_station(n: u8, k: u8, station: Record, register: Register) -> Moved
 {
     let mut own = station;
     let access = advance_record(&mut own, n, k, register);
+    let after = own;
     Moved {
-        station: own,
+        station: after,
         register: access.register,
         writes: access.writes,
         answer: access.answer,

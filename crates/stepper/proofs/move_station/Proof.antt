@@ -21,20 +21,19 @@ use prog.Wp.{Heap, Calls, Loops, WpFn, Tables}
 use ghost.Atoms.{Atoms, sem}
 use contract.Monad.{Fun, fact}
 use contract.Running.{givenOf, tables, tablesOf}
-use types.Kit.{Given, ‵, raw, given, _⊛_, some, later, _$_, _∵_, !, qed, by, move, keep, drop, use0, use1, use2, use3, split, join, pick, learn, rewrite, fsplit, fjoin, suffices, frame, await, done}
+use types.Kit.{Given, ‵, raw, given, _⊛_, some, later, _$_, _∵_, !, qed, by, move, keep, use0, use1, use2, use3, split, join, pick, learn, rewrite, fsplit, fjoin, suffices, frame, await, done}
 use types.Run.{look, init, forget, stop, fld, from, load, addr, of-opd, and-then, no-more, assigns, land, returns, enter, alloc1, alloc0, params1, pass1, pass0, free1, free0}
 use types.Part.{agg, whole, sub, look-in}
 use types.SemTy.{Body}
 use types.Tokens.{lft-new, lft-end}
 use sound.WpLaws.{FmC, fmOf, WpFn-mono}
 use denote.RattleType.{owns}
-use denote.Laws.{Is, shows}
 use denote.Lend.{lends-ref, ref-back}
 use denote.Memory.{mem}
 use denote.Plain.{uint-vals, uint-tells}
 use denote.Builtin.{u8}
 use denote.Ref.{RefT, MutRef}
-use denote.Steps.{peeks, heard, nothing}
+use denote.Steps.{heard, nothing}
 use denote.Struct.Laws as LL
 use denote.Triple.Statement.{Contract, Triple}
 use denote.Triple.Call.{calls-at}
@@ -51,12 +50,11 @@ use Rattle.model.proofs.Record.Laws as Rec′
 use Rattle.model.proofs.Register as Reg
 use Rattle.model.proofs.Register.Laws as Reg′
 use Rattle.archipelago.specs.Advanced.{Moves, Ready}
-use Rattle.archipelago.proofs.Moved as Mov
 use Rattle.stepper.specs.declared.Access.{Access}
 use Rattle.stepper.specs.InPlace.{with-station}
 use Rattle.stepper.proofs.Access as Acc
 use Rattle.stepper.proofs.Access.Laws as Acc′
-use Rattle.stepper.proofs.Walking.{slot, record-kind, register-kind, moved-kind, access-kind, val, Known, spelled, typed, free, lies-in, lies-out, moved-known, Handed, owns-handed, owns-with-record}
+use Rattle.stepper.proofs.Walking.{slot, Copies, record-kind, register-kind, moved-kind, access-kind, val, Known, spelled, typed, whole-of, tells, has, lies-in, lies-out, moved-known, Handed, owns-handed, owns-with-record}
 use Rattle.stepper.proofs.advance_record as advance-record
 use Rattle.stepper.proofs.advance_record.Symbol as advance-record-def
 use Rattle.stepper.proofs.advance_record.Symbol.{name as #stepper·advance-record}
@@ -65,15 +63,22 @@ use Rattle.stepper.proofs.move_station.Key.{name as #stepper·move-stat
 use Rattle.stepper.proofs.move_station as move-station
 use Rattle.stepper.proofs.move_station.Statement as stated
 use Rattle.stepper.proofs.move_station.Code as code
+use Rattle.stepper.proofs.move_station.Code.Mir as code-mir
 
--- The locals: _0 the result, _1 `n`, _2 `k`, _3 `station`, _4 `register`, _5 `own`, _6 `access`, _7 the reference to `own`,
--- _8 the copy of `own` that goes into the result.
+-- The locals: _0 the result, _1 `n`, _2 `k`, _3 `station`, _4 `register`, _5 `own`, _6 `access`, _7 `after`, _8 the reference
+-- to `own`.
 abbrev last : ℕ
 last = 8
 
--- While _5 is lent, its two entries stand before the locals, so those below it stand two entries nearer.
+-- While _5 is lent, its two entries stand before the other locals, so that _0 to _4 stand two entries nearer (1 - (i - 5) is 1
+-- for these, since a difference does not go below 0).
 abbrev beside : (s i : ℕ) → ℕ
 beside s i = slot last s i - 2 * (1 - (i - 5))
+
+-- One local is copied whole into `after`. Which one is read off the code, so that an edit that copies another one gets past
+-- this, and is refused where what is handed back has to be the record that the call left.
+abbrev copied-whole : Copies code-mir.s-4
+copied-whole = record { to = _; local = _; is = refl }
 
 abbrev Arg : Type 0
 Arg = ℕ × (ℕ × (Record × (Register × Unit {0})))
@@ -101,7 +106,7 @@ module _ {M : Type 1} (𝓤 : URA M) (H : Heap 𝓤) (A : Atoms 𝓤) (W : Given
   exits : (f′ : Record) (a : Access) (v : Val) → Known record-kind f′ (val record-kind f′) → Known access-kind a v → Moves n k f g (with-station f′ a) → ent 𝓤 (emp 𝓤) (Post (val moved-kind (with-station f′ a)))
   exits f′ a v f′-known a-known moves =
       qed W [] ∵ suffices ! _ (ends-at 𝓤 H A move-station.ended stayed (move-station.clauses 𝓤 H A at-mem run) W ((tt, tt, tt, x, at), tt) (val moved-kind (with-station f′ a)) (with-station f′ a) (tt, (tt, (tt, (tt, tt)))) (tt, (tt, (tt, (tt, tt))))) $ says ! moves $
-      use0 W (‵ (Mov.the-row .own (with-station f′ a) (val moved-kind (with-station f′ a) ∷ []))) (free moved-kind 𝓤 H A W (with-station f′ a) _ (moved-known f′ a v f′-known a-known)) $
+      has ! moved-kind (with-station f′ a) (moved-known f′ a v f′-known a-known) $
       use0 W (‵ (owns (u8 ∷ u8 ∷ Rec.the-row ∷ Reg.the-row ∷ []) x at)) (owns-with-record 𝓤 H A W n k g handed f f-known) $ nothing ! $ done !
 
   module _ (l : ℕ) where
@@ -127,8 +132,8 @@ module _ {M : Type 1} (𝓤 : URA M) (H : Heap 𝓤) (A : Atoms 𝓤) (W : Given
         pass1 ! (init ! (slot last 0 1) refl (tt, record { fits = handed .n-fits })) $ pass1 ! (init ! (slot last 0 2) refl (tt, record { fits = handed .k-fits })) $
         pass1 ! (init ! (slot last 0 3) refl (typed record-kind 𝓤 H A W f _ f-known)) $ pass1 ! (init ! (slot last 0 4) refl (typed register-kind 𝓤 H A W g _ (handed .g-known))) $ pass0 ! $
         -- let mut own = station, and the address of own
-        assigns ! (of-opd ! (load ! (from ! (stop !)) (look ! (slot last 0 3) refl))) (from ! (stop !)) (init ! (slot last 0 5) refl (typed record-kind 𝓤 H A W f _ f-known)) $
-        assigns ! (addr ! (from ! (stop !))) (from ! (stop !)) (init ! (slot last 0 7) refl (tt, tt)) $
+        assigns ! (of-opd ! (whole-of ! (slot last 0 3) refl)) (from ! (stop !)) (init ! (slot last 0 5) refl (typed record-kind 𝓤 H A W f _ f-known)) $
+        assigns ! (addr ! (from ! (stop !))) (from ! (stop !)) (init ! (slot last 0 8) refl (tt, tt)) $
         -- own is lent for a new lifetime ν, under a new name δ
         move ! (slot last 0 5 ∷ slot last 1 5 ∷ []) $ use1 W (‵ (mem Rec.the-row .lies f l₅ 0)) (lies-in record-kind 𝓤 H A W f l₅ 0 f-known) $ lft-new ! tt (λ ν. move ! (1 ∷ []) $
         use1 W (later (some (λ (δ : GName). ‵ (MutRef (named 0) (ν ∷ []) Rec.the-row .own (lent l₅ δ) (vptr l₅ 0 ∷ [])) ⊛ ‵ (flent (ν ∷ []) (Body (mem Rec.the-row) l₅ 0 δ))))) (lends-ref 𝓤 H A W Rec.the-row (named 0) (ν ∷ []) f l₅ 0) $ await ! tt $ pick ! (λ δ. split ! $
@@ -136,26 +141,29 @@ module _ {M : Type 1} (𝓤 : URA M) (H : Heap 𝓤) (A : Atoms 𝓤) (W : Given
         -- let access = advance_record(&mut own, n, k, register)
         move ! (2 ∷ 0 ∷ []) $ use2 W (raw (Stepper 𝓤 H A at-mem run .pre (to-stepper l₅ ν δ))) (goes-stepper l₅ ready ν δ) $
         calls-at ! fm (Stepper 𝓤 H A at-mem run) known (to-stepper l₅ ν δ)
-        (and-then ! (load ! (from ! (stop !)) (look ! (beside 3 7) refl)) (and-then ! (load ! (from ! (stop !)) (look ! (beside 3 1) refl)) (and-then ! (load ! (from ! (stop !)) (look ! (beside 3 2) refl)) (and-then ! (load ! (from ! (stop !)) (look ! (beside 3 4) refl)) (no-more !))))) (λ v.
+        (and-then ! (whole-of ! (beside 3 8) refl) (and-then ! (whole-of ! (beside 3 1) refl) (and-then ! (whole-of ! (beside 3 2) refl) (and-then ! (whole-of ! (beside 3 4) refl) (no-more !))))) (λ v.
         use1 W (later (some (λ (a : Access). ((‵ (flft (ν ∷ []) fullShare) ⊛ ‵ ftrue) ⊛ ‵ (Acc.the-row .own a (v ∷ []))) ⊛ raw (ensured 𝓤 H A advance-record.ended (advance-record.clauses 𝓤 H A at-mem run) (ν ∷ [], tt) (lent l₅ δ, (n, (k, (g, tt)))) tt a)))) (id⊢ 𝓤 _) $ await ! tt $ pick ! (λ a.
         -- what the call ensures, at some last record `ends .0`
         split ! $ move ! (1 ∷ []) $ use1 W (some (λ (ends : Record × (Unit {0} × (Unit {0} × (Unit {0} × Unit {0})))). ‵ (lasts advance-record.ended (ν ∷ [], tt) (lent l₅ δ, (n, (k, (g, tt)))) ends) ⊛ raw (fact 𝓤 (Moves n k f g (with-station (ends .0) a))))) (id⊢ 𝓤 _) $ pick ! (λ ends.
         split ! $ move ! (1 ∷ []) $ heard ! (Moves n k f g (with-station (ends .0) a)) (λ moves. fsplit ! $
         -- [the last value; true; the token and the access; the lender's part; what frees _5; the locals beside it]
-        move ! (2 ∷ []) $ split ! $ move ! (1 ∷ []) $ peeks ! Acc.the-row (Is Acc.the-row) (shows 𝓤 H A Acc.the-row) a (v ∷ []) (λ a-known. drop ! $
+        move ! (2 ∷ []) $ split ! $ move ! (1 ∷ []) $ tells ! access-kind a v (λ a-known.
         land ! (from ! (stop !)) (init ! (beside 5 6) refl (typed access-kind 𝓤 H A W a v a-known)) $ rewrite ! (beside 5 6) (λ (u : Val). ‵ (fat fullShare Acc′.mir l₆ 0 u)) (spelled access-kind a v a-known) refl $
         -- the lifetime is ended, and own comes back at the last record
         split ! $ lft-end ! tt $ move ! (0 ∷ 4 ∷ 2 ∷ []) $ use3 W (later (‵ (mem Rec.the-row .lies (ends .0) l₅ 0))) (ref-back 𝓤 H A W Rec.the-row (ν ∷ []) δ (ends .0) l₅ 0) $ await ! tt $
         use1 W (given (Known record-kind (ends .0) (val record-kind (ends .0))) (‵ (fat fullShare Rec′.mir l₅ 0 (val record-kind (ends .0))))) (lies-out record-kind 𝓤 H A W (ends .0) l₅ 0) $ learn ! (λ f′-known.
-        -- [_5; true; true; what frees _5; the locals beside it]: the result, of own and the three fields of access
-        assigns ! (of-opd ! (load ! (from ! (stop !)) (look ! 0 refl))) (from ! (stop !)) (init ! (beside 4 8) refl (typed record-kind 𝓤 H A W (ends .0) _ f′-known)) $
-        assigns ! (agg ! (and-then ! (load ! (from ! (stop !)) (look ! (beside 4 8) refl)) (and-then ! (load ! (from ! (fld ! refl (stop !))) (look-in ! (beside 4 6) (sub ! 0 refl (whole !)))) (and-then ! (load ! (from ! (fld ! refl (stop !))) (look-in ! (beside 4 6) (sub ! 1 refl (whole !)))) (and-then ! (load ! (from ! (fld ! refl (stop !))) (look-in ! (beside 4 6) (sub ! 2 refl (whole !)))) (no-more !))))))
-        (from ! (stop !)) (init ! (beside 4 0) refl (typed moved-kind 𝓤 H A W (with-station (ends .0) a) _ (moved-known (ends .0) a v f′-known a-known))) $
-        -- the locals are freed, first one first; once _5 is, two entries fewer stand before the last three
-        returns ! (look ! (beside 4 0) refl) $
-        forget ! 0 refl $ forget ! (beside 4 8) refl $ forget ! (beside 4 7) refl $ forget ! (beside 4 6) refl $ forget ! (beside 4 4) refl $ forget ! (beside 4 3) refl $ forget ! (beside 4 2) refl $ forget ! (beside 4 1) refl $ forget ! (beside 4 0) refl $
-        move ! (beside 4 0 ∷ beside 5 0 ∷ []) $ free1 ! $ move ! (beside 4 1 ∷ beside 5 1 ∷ []) $ free1 ! $ move ! (beside 4 2 ∷ beside 5 2 ∷ []) $ free1 ! $ move ! (beside 4 3 ∷ beside 5 3 ∷ []) $ free1 ! $ move ! (beside 4 4 ∷ beside 5 4 ∷ []) $ free1 ! $
-        move ! (0 ∷ 3 ∷ []) $ free1 ! $ move ! (beside 2 6 ∷ beside 3 6 ∷ []) $ free1 ! $ move ! (beside 2 7 ∷ beside 3 7 ∷ []) $ free1 ! $ move ! (beside 2 8 ∷ beside 3 8 ∷ []) $ free1 ! $ free0 ! $
+        -- [_5; true; true; what frees _5; the locals beside it]: _5 goes back to its place among the locals
+        move ! (1 ∷ 2 ∷ beside 4 8 ∷ beside 5 8 ∷ beside 4 7 ∷ beside 5 7 ∷ beside 4 6 ∷ beside 5 6 ∷ 0 ∷ 3 ∷ []) $
+        -- let after = own
+        assigns ! (of-opd ! (whole-of ! (slot last 2 (copied-whole .local)) refl)) (from ! (stop !)) (init ! (slot last 2 7) refl (typed record-kind 𝓤 H A W (ends .0) _ f′-known)) $
+        -- the result, of after and the three fields of access
+        assigns ! (agg ! (and-then ! (whole-of ! (slot last 2 7) refl) (and-then ! (load ! (from ! (fld ! refl (stop !))) (look-in ! (slot last 2 6) (sub ! 0 refl (whole !)))) (and-then ! (load ! (from ! (fld ! refl (stop !))) (look-in ! (slot last 2 6) (sub ! 1 refl (whole !)))) (and-then ! (load ! (from ! (fld ! refl (stop !))) (look-in ! (slot last 2 6) (sub ! 2 refl (whole !)))) (no-more !))))))
+        (from ! (stop !)) (init ! (slot last 2 0) refl (typed moved-kind 𝓤 H A W (with-station (ends .0) a) _ (moved-known (ends .0) a v f′-known a-known))) $
+        -- the locals are freed, first one first
+        returns ! (look ! (slot last 2 0) refl) $
+        forget ! (slot last 2 8) refl $ forget ! (slot last 2 7) refl $ forget ! (slot last 2 6) refl $ forget ! (slot last 2 5) refl $ forget ! (slot last 2 4) refl $ forget ! (slot last 2 3) refl $ forget ! (slot last 2 2) refl $ forget ! (slot last 2 1) refl $ forget ! (slot last 2 0) refl $
+        move ! (slot last 2 0 ∷ slot last 3 0 ∷ []) $ free1 ! $ move ! (slot last 2 1 ∷ slot last 3 1 ∷ []) $ free1 ! $ move ! (slot last 2 2 ∷ slot last 3 2 ∷ []) $ free1 ! $ move ! (slot last 2 3 ∷ slot last 3 3 ∷ []) $ free1 ! $ move ! (slot last 2 4 ∷ slot last 3 4 ∷ []) $ free1 ! $
+        move ! (slot last 2 5 ∷ slot last 3 5 ∷ []) $ free1 ! $ move ! (slot last 2 6 ∷ slot last 3 6 ∷ []) $ free1 ! $ move ! (slot last 2 7 ∷ slot last 3 7 ∷ []) $ free1 ! $ move ! (slot last 2 8 ∷ slot last 3 8 ∷ []) $ free1 ! $ free0 ! $
         keep ! [] $ by ! (exits (ends .0) a v f′-known a-known moves))))))))))))))))))
 
 -- The rest is the same for every walk but for the names and a line for each parameter: the walk at each choice of arguments,
