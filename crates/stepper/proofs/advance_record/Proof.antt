@@ -2,9 +2,10 @@
 -- whole and handed to `advance`, what comes back is taken apart, the new record is stored whole, and the borrow is closed.
 -- Relies on the contract of `advance` alone and on Walking; the walk of `move_station` relies on what is proved here.
 --
--- If `Record` grows by a field nothing here changes: the record is read, passed and stored whole. If `Moved` and `Access`
--- grow by a field, the aggregate at the end has one operand more. If the function has a local or a parameter more, `last`
--- grows, as do the lists that go by parameters (`Arg`, `stayed`, `at`, the passing, `goes`) and the freeing at the end.
+-- If `Record` grows by a field nothing here changes: the record is read, passed and stored whole. If `Moved` and `Access` grow by a
+-- field, so do `with-station` and `access-of`, and the aggregate at the end has one operand more. If the function has a local
+-- or a parameter more, `last` grows, as do the lists that go by parameters (`Arg`, `stayed`, `at`, the passing, `goes`) and
+-- the freeing at the end.
 use mathlib.Core.Path.{refl}
 use Prim.Native.Nat.{ℕ, suc}
 use mathlib.Core.List.{[], _∷_, List}

@@ -4,8 +4,9 @@
 -- Relies on the contract of `advance_record` alone and on Walking; whoever calls `move_station` relies on its contract by value.
 --
 -- If `Record` grows by a field nothing here changes: the record is copied and lent whole. If `Moved` and `Access` grow by a
--- field, the aggregate at the end has one operand more. If the function has a local or a parameter more, `last` grows, as do
--- the lists that go by parameters (`Arg`, `stayed`, `at`, the passing, `goes`) and the freeing at the end.
+-- field, so do `with-station` and `access-of`, and the aggregate at the end has one operand more. If the function has a local
+-- or a parameter more, `last` grows, as do the lists that go by parameters (`Arg`, `stayed`, `at`, the passing, `goes`) and
+-- the freeing at the end.
 use mathlib.Core.Path.{refl}
 use Prim.Native.Nat.{ℕ, _-_, _*_}
 use mathlib.Core.List.{[], _∷_, List}
