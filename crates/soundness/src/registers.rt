@@ -8,19 +8,25 @@ ghost use Rattle.model.specs.Bytes.{part, every};
 ghost use Rattle.model.specs.Listing.{inA, inB};
 ghost use Rattle.model.specs.Layout.{boardLength};
 ghost use Rattle.model.specs.Sound.{registerSound, arraySound, registersSound};
+use figures::word_at;
 use record_soundness::zeros::zero_pair;
 use record_soundness::zeros::zero_word;
 
-// Most registers of a board are empty: two words decide those.
+// The mark, the island and two zeros are read as one number, which decides all but the n registers of m: in A and B the
+// island is zero, so that the number of a filled register is its mark.
 pub fn register_sound(s: &[u8], at: usize, marks: u8, islands: u8) -> bool
     requires { ⌜ at + 8 ≤ length (now s) ⌝ }
     ensures { λ r. ⌜ r ≡ registerSound marks islands (part at 8 (now (s .entry))) ⌝ }
 {
-    if s[at] == 0 {
-        if !zero_word(s, at) {
-            return false;
-        }
+    let word = word_at(s, at);
+    if word == 0 {
         return zero_word(s, at + 4);
+    }
+    if islands == 1 {
+        return word <= marks as u32;
+    }
+    if s[at] == 0 {
+        return false;
     }
     if marks < s[at] {
         return false;

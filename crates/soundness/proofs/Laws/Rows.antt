@@ -1,22 +1,26 @@
 -- A register by the tests that the code makes, and the board's head.
 -- Relies on Zeros and on codec's laws of parts; the proofs of registers and of head_sound rely on it.
-use mathlib.Core.Path.{_≡_, sym, ap, _∙_}
-use mathlib.Core.Bool.{Bool, _&&_}
+use mathlib.Core.Path.{_≡_, refl, sym, ap, _∙_}
+use mathlib.Core.Bool.{Bool, false, _&&_}
 use mathlib.Core.List.{List}
 use Prim.Native.Nat.{ℕ, suc, _+_, _*_, _-_, _≤_, _<_}
-use native.Mathlib.Nat.{mul-zero, mul-one, mul-suc}
+use native.Mathlib.Nat.{add-zero, mul-zero, mul-one, mul-suc}
 use native.Mathlib.Omega.{arith}
-use lib.Dec.{eqb, leb, ltb, lit<, lit≤}
+use lib.Dec.{T, eqb, leb, ltb, leb→le, le→leb, ltb→lt, lt→ltb, lit<, lit≤}
 use lib.ListN.{length}
-use borrow.Author.Tests.{eq-eqb, ne-eqb}
-use Rattle.model.specs.Bytes.{byte, part, zeros, every}
+use native.Mathlib.Decide.{ℕ-discrete}
+use borrow.Author.Tests.{eq-eqb, ne-eqb, lt-leb}
+use Rattle.model.specs.Bytes.{byte, number, part, zeros, every}
 use Rattle.model.specs.Listing.{Array, inM, inA, inB}
 use Rattle.model.specs.Layout.{boardLength, rowOf, registerAt}
 use Rattle.model.specs.Sound.{registerSound, headSound, arraySound}
+use Rattle.model.proofs.Basics.Tests.{and-l, and-r, and-i, true-T}
+use Rattle.model.proofs.Basics.Parts.{zero-at}
 use Rattle.model.proofs.Board.Places.{InBoard, register-fits}
+use Rattle.figures.proofs.Laws.Signs.{word-read}
 use Rattle.codec.proofs.Laws.Reads.{part-part, first-byte, byte-at}
-use Rattle.record_soundness.proofs.Laws.Chains.{cond-yes, cond-no}
-use Rattle.record_soundness.proofs.Laws.Zeros.{zeros-join}
+use Rattle.record_soundness.proofs.Laws.Chains.{both, cond-yes, cond-no}
+use Rattle.record_soundness.proofs.Laws.Zeros.{zeros-join, word-zero, pair-second}
 
 module _ (marks islands : ℕ) (b : List ℕ) (at : ℕ) (h : at + 8 ≤ length b) where
   mark : byte b at ≡ byte (part at 8 b) 0
@@ -37,6 +41,61 @@ module _ (marks islands : ℕ) (b : List ℕ) (at : ℕ) (h : at + 8 ≤ length 
   register-filled f =
       (λ i. leb (mark i) marks && ltb (byte-at at 8 b 1 (lit< tt) i) islands && zeros (part-part at 8 2 2 b h (lit≤ tt) i))
       ∙ cond-no (eqb (byte (part at 8 b) 0) 0) (zeros (part at 8 b)) filled (ne-eqb (byte (part at 8 b) 0) 0 (λ e. f (mark ∙ e)))
+
+  -- the first four bytes as one number
+  module _ (word : ℕ) (e : word ≡ number (part at 4 b)) where
+    its-bytes : word ≡ byte b at + 256 * byte b (at + 1) + 65536 * byte b (at + 2) + 16777216 * byte b (at + 3)
+    its-bytes = e ∙ sym (word-read b at (byte b at) (byte b (at + 1)) (byte b (at + 2)) (byte b (at + 3)) (omega arith) refl refl refl refl)
+
+    next : at + 2 + 1 ≡ at + 3
+    next = omega arith
+
+    pub word-empty : word ≡ 0 → zeros (part (at + 4) 4 b) ≡ registerSound marks islands (part at 8 b)
+    word-empty z =
+        ap (λ (t : Bool). t && zeros (part (at + 4) 4 b)) (sym (eq-eqb word 0 z) ∙ word-zero word (part at 4 b) e)
+        ∙ register-empty (omega (arith, its-bytes))
+
+    -- a register whose mark is zero and whose island or zeros are not
+    pub word-stray : (word ≡ 0 → ⊥) → byte b at ≡ 0 → false ≡ registerSound marks islands (part at 8 b)
+    word-stray f z =
+        ap (λ (t : Bool). t && zeros (part (at + 4) 4 b)) (sym (ne-eqb word 0 f) ∙ word-zero word (part at 4 b) e) ∙ register-empty z
+
+    -- a filled register whose island is zero is its mark
+    module _ (small : marks ≤ 255) (one : islands ≡ 1) (f : word ≡ 0 → ⊥) where
+      low : Bool
+      low = leb (byte b at) marks
+
+      inside : Bool
+      inside = ltb (byte b (at + 1)) islands
+
+      rest : Bool
+      rest = zeros (part (at + 2) 2 b)
+
+      forth : T (leb word marks) → T (low && inside && rest)
+      unfolding low inside rest
+      forth l =
+          let small-word = leb→le word marks l in
+          let y : byte b (at + 1) ≡ 0 = omega (arith, its-bytes) in
+          let z : byte b (at + 2) ≡ 0 = omega (arith, its-bytes) in
+          let w : byte b (at + 2 + 1) ≡ 0 = omega (arith, its-bytes, ap (byte b) next) in
+          and-i (low && inside) rest (and-i low inside (le→leb (byte b at) marks (omega (arith, its-bytes))) (lt→ltb (byte b (at + 1)) islands (omega arith)))
+          (true-T rest (sym (pair-second b (at + 2) (omega arith) z) ∙ eq-eqb (byte b (at + 2 + 1)) 0 w))
+
+      back : T (low && inside && rest) → T (leb word marks)
+      unfolding low inside rest
+      back t =
+          let m = leb→le (byte b at) marks (and-l low inside (and-l (low && inside) rest t)) in
+          let y = ltb→lt (byte b (at + 1)) islands (and-r low inside (and-l (low && inside) rest t)) in
+          let z = zero-at (at + 2) 2 b (omega arith) (and-r (low && inside) rest t) in
+          le→leb word marks (omega (arith, its-bytes, z 0 (lit< tt), ap (byte b) (add-zero (at + 2)), z 1 (lit< tt), ap (byte b) next))
+
+      pub word-mark : leb word marks ≡ registerSound marks islands (part at 8 b)
+      unfolding low inside rest
+      word-mark = go (ℕ-discrete (byte b at) 0)
+        where
+          go : Dec (byte b at ≡ 0) → leb word marks ≡ registerSound marks islands (part at 8 b)
+          go (yes z) = lt-leb word marks (omega (arith, its-bytes)) ∙ word-stray f z
+          go (no g) = both (leb word marks) (low && inside && rest) forth back ∙ register-filled g
 
 pub head-form : (b : List ℕ) → zeros (part 2 2 b) && zeros (part 4 4 b) ≡ headSound b
 unfolding headSound
