@@ -1,9 +1,11 @@
 -- Items run as they stand in a line.
 -- Relies on the model's readers of items and on the run of a list of stations; the contracts of the walk rely on it.
 use mathlib.Core.Path.{_≡_}
+use mathlib.Core.Bool.{cond}
 use mathlib.Core.List.{List}
 use mathlib.Core.Option.{Option}
-use Prim.Native.Nat.{ℕ, _≤_, _<_}
+use Prim.Native.Nat.{ℕ, _+_, _≤_, _<_}
+use lib.Dec.{eqb}
 use lib.ListN.{length, drop}
 use Rattle.model.specs.declared.RunVerdict.{RunVerdict}
 use Rattle.model.specs.Calls.{run}
@@ -13,6 +15,10 @@ use Rattle.sheet.specs.declared.form.LineForm.the-variants.{Steps}
 use Rattle.sheet.specs.Lines.{lineForm}
 use Rattle.stepping.specs.Stepped.{RunsOn}
 use Rattle.walk.specs.declared.Walked.{Walked}
+
+-- the round to go on with after round i: none of those that are left, where no step was taken
+unfoldable pub roundAfter : (i rounds taken : ℕ) → ℕ
+roundAfter i rounds taken = cond (eqb taken 0) rounds (i + 1)
 
 -- what a walk over the steps `is` of a part of a line leaves: it started at `at` with the board b, and `rest` follows
 pub record Walk (line : List ℕ) (at : ℕ) (is rest b : List ℕ) (r : Walked) (d : List ℕ) : Type 0 where

@@ -3,8 +3,9 @@
 // Relies on the step of a sound board and on the readers of numbers and of `times`; the player of a line relies on it.
 ghost use mathlib.Core.Path.{_≡_};
 ghost use mathlib.Core.Option.{none};
+ghost use Prim.Native.Nat.{_<_};
 ghost use Rattle.model.specs.Calls.{boardRefusal};
-ghost use Rattle.walk.specs.Walks.{ItemReads, ItemsRead, ItemWalks, ItemsWalk, LineCounts, RunsLine};
+ghost use Rattle.walk.specs.Walks.{roundAfter, ItemReads, ItemsRead, ItemWalks, ItemsWalk, LineCounts, RunsLine};
 use lexer::number::FoundNumber;
 use lexer::number::number;
 use model::RunVerdict;
@@ -18,6 +19,18 @@ use stepping::sound_step::step_on;
 pub struct Walked {
     pub taken: u32,
     pub next: usize,
+}
+
+// The round after round i of some, by the steps taken in it. A round that takes no step leaves the board as it was, and so
+// would every later one: they are passed over, so that a line costs no more than the steps that it takes.
+fn round_after(i: u32, rounds: u32, taken: u32) -> u32
+    requires { ⌜ i < rounds ⌝ }
+    ensures { λ r. ⌜ r ≡ roundAfter i rounds taken ⌝ }
+{
+    if taken == 0 {
+        return rounds;
+    }
+    i + 1
 }
 
 fn run_item(board: &mut [u8], line: &[u8], at: usize) -> Walked
@@ -44,7 +57,7 @@ fn run_item(board: &mut [u8], line: &[u8], at: usize) -> Walked
         let walked = run_items(board, line, inner);
         total += walked.taken;
         next = walked.next;
-        i += 1;
+        i = round_after(i, value, walked.taken);
     }
     Walked { taken: total, next }
 }

@@ -6,7 +6,8 @@ use lib.ListN.{length}
 use borrow.Author.Needs.{needs}
 use Rattle.sheet.proofs.Laws.Items.{times-behind, falls-to}
 use Rattle.lexer.proofs.Laws.Spaced.{number-inside}
-use Rattle.walk.proofs.Laws.Walking.{item-inside, no-number, one-step, no-times, Rounds, rounds-begin, round-reads, round-fits, round-more, rounds-end}
+use Rattle.walk.proofs.Laws.Walking.{item-inside, no-number, one-step, no-times, Rounds, rounds-begin, round-reads, round-fits, rounds-end}
+use Rattle.walk.proofs.Laws.Idle.{later, round-on}
 use Rattle.walk.proofs.Laws.Passing.{Passed, passed-begin, passed-inside, item-reads, passed-fits, passed-behind, passed-more, passed-end}
 use borrow.Fn.Kinds.{In}
 use borrow.Fn.PlainCycle.{Measures, is, falls, and}
@@ -20,6 +21,7 @@ use Rattle.stepping.proofs.running.taken.Reads as taken-reads
 use Rattle.stepping.proofs.sound_step.step_on.Reads as step-on-reads
 use Rattle.sheet.proofs.item.times.Reads as times-reads
 use Rattle.lexer.proofs.number.number.Reads as number-reads
+use Rattle.walk.proofs.round_after.Reads as round-after-reads
 use Rattle.walk.proofs.+run_item+run_items.{statement}
 use Rattle.walk.proofs.+run_item+run_items.Tie.{close}
 
@@ -49,7 +51,7 @@ run-items-claims t = (run-item-below t, run-item.Post)
 
 -- what the calls that `run_item` makes ask and give
 abbrev run-item-claims : ℕ → run-item-lts.Claims
-run-item-claims t = (number-reads.Asked, number-reads.Learnt, step-on-reads.Asked, step-on-reads.Learnt, taken-reads.Asked, taken-reads.Learnt, times-reads.Asked, times-reads.Learnt, run-items-below t, run-items.Post)
+run-item-claims t = (number-reads.Asked, number-reads.Learnt, step-on-reads.Asked, step-on-reads.Learnt, taken-reads.Asked, taken-reads.Learnt, times-reads.Asked, times-reads.Learnt, run-items-below t, run-items.Post, round-after-reads.Asked, round-after-reads.Learnt)
 
 abbrev run-item-Inv-loop : run-item-lts.InvT-loop
 run-item-Inv-loop board₀ line at value inner total₀ next₀ i₀ board total next i =
@@ -109,14 +111,14 @@ run-item-run-items-requires t c κs = (falls-to _ _ _ _ (c .before .before .befo
 run-item-add-total : (t : ℕ) → run-item-lts.Need-add-total (run-item-claims t) (run-item-at t) run-item.Post run-item-Inv-loop run-item-μ-loop
 run-item-add-total t c = record { fits = omega (arith, round-fits _ _ _ _ _ _ _ _ (c .before .before .before .before .before .before .loop .inv) (omega arith) _ _ (c .before .before .before .run-items .ensures)) }
 
-run-item-add-i : (t : ℕ) → run-item-lts.Need-add-i (run-item-claims t) (run-item-at t) run-item.Post run-item-Inv-loop run-item-μ-loop
-run-item-add-i t c = search needs
+run-item-round-after-requires : (t : ℕ) → run-item-lts.Need-round-after-requires (run-item-claims t) (run-item-at t) run-item.Post run-item-Inv-loop run-item-μ-loop
+run-item-round-after-requires t c κs = omega arith
 
 run-item-loop-less : (t : ℕ) → run-item-lts.Need-loop-less (run-item-claims t) (run-item-at t) run-item.Post run-item-Inv-loop run-item-μ-loop
-run-item-loop-less t c = omega arith
+run-item-loop-less t c = omega (arith, c .round-after .ensures, later _ _ (c .before .before .before .before .run-items .result .taken) (c .before .before .before .before .before .before .loop-test .taken))
 
 run-item-loop-again : (t : ℕ) → run-item-lts.Need-loop-again (run-item-claims t) (run-item-at t) run-item.Post run-item-Inv-loop run-item-μ-loop
-run-item-loop-again t c = round-more _ _ _ _ _ _ _ _ (c .before .before .before .before .before .before .loop .inv) (omega arith) _ _ (c .before .before .before .run-items .ensures)
+run-item-loop-again t c = round-on _ _ _ _ _ _ _ _ (c .before .before .before .before .before .before .before .loop .inv) (omega arith) _ _ (c .before .before .before .before .run-items .ensures) _ (c .round-after .ensures)
 
 run-item-same-length-2 : (t : ℕ) → run-item-lts.Need-same-length-2 (run-item-claims t) (run-item-at t) run-item.Post run-item-Inv-loop run-item-μ-loop
 run-item-same-length-2 t c = c .before .loop .inv .len
@@ -211,7 +213,7 @@ pub +run-item+run-items-spec : {M : Type 1} → statement M
     (run-item-loop-holds t)
     (run-item-run-items-requires t)
     (run-item-add-total t)
-    (run-item-add-i t)
+    (run-item-round-after-requires t)
     (run-item-loop-less t)
     (run-item-loop-again t)
     (run-item-same-length-2 t)

@@ -13,7 +13,7 @@ use lib.ListN.{length, getD, drop, drop-of-length-le}
 use borrow.Author.Tests.{ltb-true, ltb-false}
 use Rattle.model.specs.declared.StepAnswer.{StepAnswer}
 use Rattle.model.specs.Calls.{boardRefusal}
-use Rattle.model.specs.Forms.{Item, station, times, Items, done, next, repeated, expandItem, expand, Read, found, andThen, spaced, number, natural, itemIn, itemsIn}
+use Rattle.model.specs.Forms.{Item, station, times, Items, next, repeated, expandItem, expand, Read, found, andThen, spaced, number, natural, itemIn, itemsIn}
 use Rattle.model.proofs.Sheet.Limits.{length-repeated}
 use Rattle.lexer.specs.declared.number.FoundNumber.{FoundNumber}
 use Rattle.lexer.specs.declared.number.FoundNumber.the-variants.{At, Missing}
@@ -146,7 +146,7 @@ module _ (line b : List ℕ) (k inner : ℕ) (d : List ℕ) (total after i : ℕ
       }
 
   module _ (w : Walked) (e : List ℕ) (walks : ItemsWalk line inner d w e) where
-    walked : Walk line inner (expand (rounds .items)) (rounds .rest) d w e
+    pub walked : Walk line inner (expand (rounds .items)) (rounds .rest) d w e
     unfolding Walks
     walked = walks (rounds .fuel) (rounds .items) (rounds .rest) (rounds .read)
 
