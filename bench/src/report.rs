@@ -1,0 +1,132 @@
+//! The tables of `bench/run`, from what it wrote down: counts, times, sheets and stack, in fields with tabs between them.
+
+use crate::measure::ENGINES;
+use crate::work::{contended, LONGEST_RUN, SIZES};
+use std::collections::BTreeMap;
+
+/// By engine, n, K and what was measured.
+type Numbers = BTreeMap<(String, u8, u8, String), f64>;
+
+fn rows(folder: &str, name: &str) -> Vec<Vec<String>> {
+    let text = std::fs::read_to_string(format!("{folder}/{name}")).unwrap_or_default();
+    text.lines().map(|line| line.split('\t').map(str::to_string).collect()).collect()
+}
+
+fn numbers(folder: &str, name: &str) -> Numbers {
+    let number = |text: &String| text.parse::<f64>().expect("a number");
+    let byte = |text: &String| text.parse::<u8>().expect("a small number");
+    rows(folder, name).iter().map(|r| ((r[0].clone(), byte(&r[1]), byte(&r[2]), r[3].clone()), number(&r[4]))).collect()
+}
+
+/// What a column shows, worked out from what was measured.
+enum Column {
+    /// A call.
+    Whole(&'static str),
+    /// A run less the same run of no station, for each step of it.
+    Each(&'static str),
+    /// The same for the longest list of which every step is taken.
+    EachTaken(&'static str),
+}
+
+const COLUMNS: [(&str, Column); 8] = [
+    ("step taken in a run", Column::EachTaken("taken")),
+    ("step refused in a run", Column::Each("refused")),
+    ("run of 65,536", Column::Whole("run")),
+    ("first single step", Column::Whole("first step")),
+    ("single step midway", Column::Whole("middle step")),
+    ("laying", Column::Whole("lay")),
+    ("showing", Column::Whole("show")),
+    ("soundness", Column::Whole("check")),
+];
+
+impl Column {
+    fn value(&self, all: &Numbers, engine: &str, n: u8, k: u8) -> Option<f64> {
+        let raw = |what: &str| all.get(&(engine.to_string(), n, k, what.to_string())).copied();
+        let each = |what: &str, steps: usize| Some((raw(what)? - raw(&format!("{what}, none"))?) / steps as f64);
+        match self {
+            Column::Whole(what) => Some(raw(what)? - raw("nothing")?),
+            Column::Each(what) => each(what, LONGEST_RUN),
+            Column::EachTaken(what) => each(what, contended(n, k).len()),
+        }
+    }
+}
+
+/// A whole number with commas, or one digit behind the point below a thousand.
+fn told(x: f64) -> String {
+    if x < 1000.0 {
+        return format!("{:.1}", x).trim_end_matches(".0").to_string();
+    }
+    let digits = format!("{x:.0}");
+    let mut out = String::new();
+    for (at, digit) in digits.chars().enumerate() {
+        if at > 0 && (digits.len() - at) % 3 == 0 {
+            out.push(',');
+        }
+        out.push(digit);
+    }
+    out
+}
+
+/// Ours, and behind it ours over each of the others.
+fn cell(all: &Numbers, column: &Column, n: u8, k: u8) -> String {
+    let [Some(ours), Some(direct), Some(values)] = ENGINES.map(|engine| column.value(all, engine, n, k)) else {
+        return "–".to_string();
+    };
+    format!("{} ({:.2}, {:.2})", told(ours), ours / direct, ours / values)
+}
+
+fn table(title: &str, all: &Numbers) {
+    println!("\n{title}\n");
+    println!("| n, K |{}", COLUMNS.map(|(name, _)| format!(" {name} |")).concat());
+    println!("|---|{}", "---|".repeat(COLUMNS.len()));
+    for (n, k) in SIZES {
+        println!("| {n}, {k} |{}", COLUMNS.map(|(_, column)| format!(" {} |", cell(all, &column, n, k))).concat());
+    }
+}
+
+/// The least and the most over every n and K. Of values there is none: where its memory comes from differs from call to
+/// call, and that outweighs a step.
+fn span(all: &Numbers, engine: &str, what: &str) -> String {
+    let of = |n, k| {
+        let raw = |what: &str| all.get(&(engine.to_string(), n, k, what.to_string()));
+        Some(raw(what)? - raw(&format!("{what}, none"))?)
+    };
+    let found: Vec<f64> = SIZES.iter().filter_map(|(n, k)| of(*n, *k)).collect();
+    let (least, most) = (found.iter().copied().fold(f64::MAX, f64::min), found.iter().copied().fold(0.0, f64::max));
+    if least == most {
+        told(least)
+    } else {
+        format!("{} to {}", told(least), told(most))
+    }
+}
+
+fn kinds(all: &Numbers) {
+    println!("\nInstructions of one step in a run, by kind, over all nine sizes:\n");
+    println!("| step | ours | direct |\n|---|---|---|");
+    for array in ["m", "A", "B"] {
+        for kind in ["write", "read own", "read empty", "last read"] {
+            let what = format!("{kind} {array}");
+            println!("| {what} | {} | {} |", span(all, "ours", &what), span(all, "direct", &what));
+        }
+    }
+}
+
+/// A table of which the fields stand ready.
+fn plain(title: &str, head: &str, folder: &str, name: &str) {
+    println!("\n{title}\n\n{head}\n|{}", "---|".repeat(head.matches('|').count() - 1));
+    for row in rows(folder, name) {
+        let fields = row.iter().map(|f| f.parse::<f64>().map_or_else(|_| f.clone(), told));
+        println!("|{}", fields.map(|f| format!(" {f} |")).collect::<String>());
+    }
+}
+
+pub fn print(folder: &str) {
+    let counts = numbers(folder, "counts");
+    table("Instructions, ours (over direct, over values):", &counts);
+    kinds(&counts);
+    table("Nanoseconds on this machine, ours (over direct, over values):", &numbers(folder, "times"));
+    let head = "| sheet | lines | instructions a line | values' | the whole sheet | values' | time | values' |";
+    plain("Sheets of 32,768 bytes, through the program:", head, folder, "sheets");
+    plain("Deepest stack:", "| call | bytes |", folder, "stack");
+    plain("Memory:", "| of | text | data | bss |", folder, "sizes");
+}

@@ -1,0 +1,175 @@
+//! What is measured: boards and lists of stations for each n and K, and the calls made on them.
+
+use reference::bytes::length;
+use reference::engine::{Engine, Reference, SHOWN};
+
+pub const SIZES: [(u8, u8); 9] = [(1, 2), (1, 8), (1, 64), (3, 2), (3, 8), (3, 64), (16, 2), (16, 8), (16, 64)];
+
+pub const LONGEST_RUN: usize = 65_536;
+
+/// One call. Nothing is the measuring's own price, which is taken off every other one.
+#[derive(Clone)]
+pub enum Call {
+    Nothing,
+    Lay(u8, u8),
+    Step(u8),
+    Run(Vec<u8>),
+    Check,
+    Show,
+}
+
+#[derive(Clone)]
+pub struct Case {
+    pub name: String,
+    /// Whether it goes under the clock too.
+    pub timed: bool,
+    pub board: Vec<u8>,
+    pub call: Call,
+}
+
+impl Case {
+    fn new(name: &str, board: &[u8], call: Call) -> Case {
+        Case { name: name.to_string(), timed: true, board: board.to_vec(), call }
+    }
+
+    pub fn made(&self, engine: &dyn Engine, board: &mut [u8], line: &mut [u8; SHOWN]) -> u64 {
+        match &self.call {
+            Call::Nothing => 0,
+            Call::Lay(n, k) => engine.lay(board, *n, *k) as u64,
+            Call::Step(station) => engine.step(board, *station),
+            Call::Run(stations) => engine.run(board, stations),
+            Call::Check => engine.check(board) as u64,
+            Call::Show => engine.show(board, line) as u64,
+        }
+    }
+}
+
+/// A fresh board on which every station has proposed: a higher station a higher figure, all of eleven characters.
+pub fn proposed(n: u8, k: u8) -> Vec<u8> {
+    let mut board = vec![0; length(n, k)];
+    assert_eq!(Reference.lay(&mut board, n, k), 0);
+    for station in 1..=n {
+        assert_eq!(Reference.propose(&mut board, station, i32::MIN + station as i32), 0);
+    }
+    board
+}
+
+/// The longest list of which every step is taken. On each island the stations read m and A one after the other, the
+/// lowest figure first; then all but the first go through B, and the first comes last with its commit. It meets adopts,
+/// they met no commit, and so every one of them takes all its 3n + 3 steps on all K islands. A station alone decides
+/// on its first island.
+pub fn contended(n: u8, k: u8) -> Vec<u8> {
+    let collect = n as usize + 1;
+    if n == 1 {
+        return vec![1; 3 * collect];
+    }
+    let turns: Vec<u8> = (1..=n).chain(1..=n).chain(2..=n).chain([1]).collect();
+    let island: Vec<u8> = turns.iter().flat_map(|s| vec![*s; collect]).collect();
+    island.repeat(k as usize)
+}
+
+/// All stations in turn.
+fn in_turn(n: u8, count: usize) -> impl Iterator<Item = u8> {
+    (1..=n).cycle().take(count)
+}
+
+pub fn after(board: &[u8], stations: &[u8]) -> Vec<u8> {
+    let mut board = board.to_vec();
+    assert_eq!(Reference.run(&mut board, stations), (stations.len() as u64) << 8, "every step is taken");
+    board
+}
+
+/// A step inside a run is a run of one station less a run of none.
+fn step_in_run(name: &str, board: &[u8], station: u8) -> [Case; 2] {
+    let none = format!("{name}, none");
+    [Case::new(name, board, Call::Run(vec![station])), Case::new(&none, board, Call::Run(vec![]))]
+}
+
+/// The kinds of step, made by station 1 alone, so that they meet the same at every n and K.
+fn kinds(n: u8, k: u8) -> Vec<Case> {
+    let fresh = proposed(n, k);
+    let mut cases = Vec::new();
+    for (at, array) in ["m", "A", "B"].iter().enumerate() {
+        let begun = at * (n as usize + 1);
+        let mut kind = |name: &str, steps: usize| {
+            let board = after(&fresh, &vec![1; begun + steps]);
+            cases.extend(step_in_run(&format!("{name} {array}"), &board, 1));
+        };
+        kind("write", 0);
+        if n > 2 {
+            kind("read own", 1);
+            kind("read empty", 2);
+        }
+        kind("last read", n as usize);
+    }
+    cases
+}
+
+/// Every call that is measured for one n and K.
+pub fn cases(n: u8, k: u8) -> Vec<Case> {
+    let fresh = proposed(n, k);
+    let taken = contended(n, k);
+    // Half of the list ends an island; from there every station goes through m, and the first one has written to A.
+    let half = if n == 1 { 3 } else { taken.len() / 2 + n as usize * (n as usize + 1) + 1 };
+    let middle = after(&fresh, &taken[..half]);
+    let end = after(&fresh, &taken);
+    let full: Vec<u8> = taken.iter().copied().chain(in_turn(n, LONGEST_RUN - taken.len())).collect();
+    let refused = Call::Run(in_turn(n, LONGEST_RUN).collect());
+    let mut cases = vec![
+        Case::new("nothing", &fresh, Call::Nothing),
+        Case::new("run", &fresh, Call::Run(full)),
+        Case::new("taken", &fresh, Call::Run(taken.clone())),
+        Case::new("taken, none", &fresh, Call::Run(vec![])),
+        Case::new("refused", &end, refused),
+        Case::new("refused, none", &end, Call::Run(vec![])),
+        Case::new("first step", &fresh, Call::Step(1)),
+        Case::new("middle step", &middle, Call::Step(taken[half])),
+        Case::new("lay", &end, Call::Lay(n, k)),
+        Case::new("show", &middle, Call::Show),
+        Case::new("check", &middle, Call::Check),
+        Case::new("check fresh", &fresh, Call::Check),
+        Case::new("check end", &end, Call::Check),
+    ];
+    cases.extend(kinds(n, k).into_iter().map(|case| Case { timed: false, ..case }));
+    cases
+}
+
+/// A call with all that it needs, and its name.
+type Named = (&'static str, Box<dyn FnMut(&dyn Engine) -> u64 + Send>);
+
+fn on_board(name: &'static str, board: &[u8], call: Call) -> Named {
+    let mut case = Case::new(name, board, call);
+    let mut memory = std::mem::take(&mut case.board);
+    let mut line = [0; SHOWN];
+    (name, Box::new(move |engine| case.made(engine, &mut memory, &mut line)))
+}
+
+fn on_line(name: &'static str, board: &[u8], line: &'static str) -> Named {
+    let mut board = board.to_vec();
+    (name, Box::new(move |engine| engine.play_line(line.as_bytes(), board.len(), &mut board).1 as u64))
+}
+
+/// Every call of the C interface on the largest board, with what makes it go deepest.
+pub fn widest() -> Vec<Named> {
+    let (n, k) = (16, 64);
+    let fresh = proposed(n, k);
+    let mut idle = vec![0; length(n, k)];
+    assert_eq!(Reference.lay(&mut idle, n, k), 0);
+    let all = contended(n, k);
+    let middle = after(&fresh, &all[..all.len() / 2]);
+    let mut proposing = idle.clone();
+    vec![
+        on_board("nothing", &fresh, Call::Nothing),
+        on_board("lufanelis_lay", &fresh, Call::Lay(n, k)),
+        ("lufanelis_propose", Box::new(move |engine| engine.propose(&mut proposing, 16, i32::MIN) as u64)),
+        on_board("lufanelis_check", &middle, Call::Check),
+        on_board("lufanelis_step", &middle, Call::Step(1)),
+        on_board("lufanelis_run", &fresh, Call::Run(all)),
+        on_board("lufanelis_show", &middle, Call::Show),
+        ("lufanelis_word", Box::new(|engine| engine.word(b"(propose 1 2)").1 as u64)),
+        on_line("lufanelis_play_line, board", &idle, "(board 16 64)"),
+        on_line("lufanelis_play_line, propose", &idle, "(propose 16 -2147483648)"),
+        on_line("lufanelis_play_line, steps", &fresh, crate::sheets::NESTED),
+        on_line("lufanelis_play_line, show", &middle, "(show)"),
+    ]
+}
