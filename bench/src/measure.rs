@@ -71,9 +71,9 @@ fn median(mut list: Vec<f64>) -> f64 {
     list[list.len() / 2]
 }
 
-/// The median over 15 batches of about 200 microseconds, less what copying the board takes.
+/// The median over 41 batches of about 200 microseconds, less what copying the board takes.
 fn nanoseconds(case: &Case, engine: &dyn Engine) -> f64 {
-    const BATCHES: usize = 15;
+    const BATCHES: usize = 41;
     let nothing = Case { call: Call::Nothing, ..case.clone() };
     let once = batch(case, engine, 3) / 3.0;
     let count = (200e-6 / once).clamp(1.0, 4000.0) as usize;

@@ -31,11 +31,16 @@ fn sound(board: &[u8], n: usize, k: usize) -> bool {
         })
 }
 
+/// Half of a register.
+fn half(bytes: &[u8]) -> u32 {
+    u32::from_le_bytes(bytes.try_into().expect("four bytes"))
+}
+
 /// Registers of A or B: empty, or a mark with zeros up to the figure.
 fn filled(row: &[u8], marks: u32) -> bool {
-    row.chunks_exact(8).all(|c| {
-        let w = word(c);
-        w == 0 || (w as u32).wrapping_sub(1) < marks
+    row.chunks_exact(8).all(|c| match half(&c[..4]) {
+        0 => half(&c[4..]) == 0,
+        mark => mark <= marks,
     })
 }
 
