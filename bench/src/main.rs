@@ -24,7 +24,6 @@ fn main() {
         ["compare"] => compare(300),
         ["count", engine] => measure::count(engine),
         ["time"] => measure::time(),
-        ["stack"] => measure::stack(),
         ["sheets"] => sheets::names().iter().for_each(|(name, lines)| println!("{name} {lines}")),
         ["sheet", name] => print!("{}", sheets::made(name, None)),
         ["sheet", name, lines] => print!("{}", sheets::made(name, Some(lines.parse().expect("a number")))),

@@ -1,8 +1,8 @@
-//! Making the measured calls: once each under callgrind, many times each under the clock, and each on a thread of its own
-//! where the deepest stack is asked for. Everything is printed as fields with tabs between them.
+//! Making the measured calls: once each under callgrind, and many times each under the clock. Everything is printed as
+//! fields with tabs between them.
 
 use crate::direct::Direct;
-use crate::work::{cases, widest, Call, Case, SIZES};
+use crate::work::{cases, Call, Case, SIZES};
 use reference::engine::{Engine, Linked, Reference, SHOWN};
 use reference::sheet;
 use std::hint::black_box;
@@ -71,42 +71,28 @@ fn median(mut list: Vec<f64>) -> f64 {
     list[list.len() / 2]
 }
 
-/// The median over 41 batches of about 200 microseconds, less what copying the board takes.
-fn nanoseconds(case: &Case, engine: &dyn Engine) -> f64 {
+/// Nanoseconds of a call by each engine: the median over 41 batches of about 200 microseconds, less what copying the
+/// board takes. The engines take turns, so that whatever else the machine does meets them alike.
+fn nanoseconds(case: &Case) -> [f64; 3] {
     const BATCHES: usize = 41;
     let nothing = Case { call: Call::Nothing, ..case.clone() };
-    let once = batch(case, engine, 3) / 3.0;
-    let count = (200e-6 / once).clamp(1.0, 4000.0) as usize;
-    let all = median((0..BATCHES).map(|_| batch(case, engine, count)).collect());
-    let copying = median((0..BATCHES).map(|_| batch(&nothing, engine, count)).collect());
-    (all - copying).max(0.0) * 1e9 / count as f64
+    let counts = ENGINES.map(|name| (200e-6 * 3.0 / batch(case, engine(name), 3)).clamp(1.0, 4000.0) as usize);
+    let mut found = [(); 3].map(|()| Vec::new());
+    for _ in 0..BATCHES {
+        for (at, name) in ENGINES.iter().enumerate() {
+            let spent = batch(case, engine(name), counts[at]) - batch(&nothing, engine(name), counts[at]);
+            found[at].push(spent.max(0.0) * 1e9 / counts[at] as f64);
+        }
+    }
+    found.map(median)
 }
 
 pub fn time() {
-    for name in ENGINES {
-        for (n, k) in SIZES {
-            for case in cases(n, k).iter().filter(|case| case.timed) {
-                println!("{name}\t{n}\t{k}\t{}\t{:.1}", case.name, nanoseconds(case, engine(name)));
+    for (n, k) in SIZES {
+        for case in cases(n, k).iter().filter(|case| case.timed) {
+            for (name, spent) in ENGINES.iter().zip(nanoseconds(case)) {
+                println!("{name}\t{n}\t{k}\t{}\t{spent:.1}", case.name);
             }
         }
-    }
-}
-
-/// A call made from deeper down than anything that a thread's own start and end do.
-#[inline(never)]
-fn deep(mut work: impl FnMut() -> u64) -> u64 {
-    let below = [0u8; 65_536];
-    black_box(&below);
-    let answer = work();
-    black_box(&below);
-    answer
-}
-
-/// One thread after another, each of one call of the proved engine on the largest board; the first makes none. drd says
-/// of each how much of its stack it used.
-pub fn stack() {
-    for (name, mut work) in widest() {
-        std::thread::spawn(move || deep(|| work(&Linked))).join().expect("a call that ends");
-        println!("{name}");
     }
 }

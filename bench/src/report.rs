@@ -125,7 +125,7 @@ pub fn print(folder: &str) {
     table("Instructions, ours (over direct, over values):", &counts);
     kinds(&counts);
     table("Nanoseconds on this machine, ours (over direct, over values):", &numbers(folder, "times"));
-    let head = "| sheet | lines | instructions a line | values' | the whole sheet | values' | time | values' |";
+    let head = "| sheet | repeats | instructions of one | values' | the whole sheet | values' | time | values' |";
     plain("Sheets of 32,768 bytes, through the program:", head, folder, "sheets");
     plain("Deepest stack:", "| call | bytes |", folder, "stack");
     plain("Memory:", "| of | text | data | bss |", folder, "sizes");

@@ -1,0 +1,130 @@
+/* The deepest stack of each call of the C interface, and of a whole program: `stack` and `stack PROGRAM < SHEET`.
+ * A second process is stepped through, one instruction at a time, and the lowest stack pointer is kept: exact bytes, the
+ * return address among them. x86-64 Linux. Prints a name and a number, with a tab between them. */
+#define _GNU_SOURCE
+#include "../include/lufanelis.h"
+
+#include <signal.h>
+#include <stdio.h>
+#include <string.h>
+#include <sys/ptrace.h>
+#include <sys/user.h>
+#include <sys/wait.h>
+#include <unistd.h>
+
+/* Around a measured call, for the process that looks on. */
+#define MARK __asm__ volatile("int3" ::: "memory")
+
+#define MEASURE(call) \
+    do {              \
+        MARK;         \
+        sink = (call); \
+        MARK;         \
+    } while (0)
+
+static const char *const names[] = {
+    "lufanelis_lay",
+    "lufanelis_propose",
+    "lufanelis_check",
+    "lufanelis_step",
+    "lufanelis_run",
+    "lufanelis_show",
+    "lufanelis_word",
+    "lufanelis_play_line, board",
+    "lufanelis_play_line, propose",
+    "lufanelis_play_line, steps in eight brackets",
+    "lufanelis_play_line, 10,000 steps",
+    "lufanelis_play_line, show",
+};
+
+static uint8_t board[LUFANELIS_LARGEST_BOARD];
+static uint8_t line[LUFANELIS_LINE_LENGTH];
+static uint8_t stations[96];
+static volatile uint64_t sink;
+
+static uint64_t played(const char *text)
+{
+    return lufanelis_play_line((const uint8_t *)text, strlen(text), sizeof board, board, sizeof board, line, sizeof line);
+}
+
+/* On the largest board: figures of eleven characters, and lines that go deepest. */
+static void calls(void)
+{
+    static const char word[] = "(propose 1 2)";
+    MEASURE(lufanelis_lay(board, sizeof board, 16, 64));
+    MEASURE(lufanelis_propose(board, sizeof board, 1, INT32_MIN));
+    for (int i = 2; i <= 16; i++)
+        lufanelis_propose(board, sizeof board, (uint8_t)i, INT32_MIN + i);
+    MEASURE(lufanelis_check(board, sizeof board));
+    MEASURE(lufanelis_step(board, sizeof board, 1));
+    for (size_t i = 0; i < sizeof stations; i++)
+        stations[i] = (uint8_t)(i % 16 + 1);
+    MEASURE(lufanelis_run(board, sizeof board, stations, sizeof stations));
+    MEASURE(lufanelis_show(board, sizeof board, line, sizeof line));
+    MEASURE(lufanelis_word((const uint8_t *)word, sizeof word - 1));
+    MEASURE(played("(board 16 64)"));
+    MEASURE(played("(propose 16 -2147483648)"));
+    MEASURE(played("(steps (times 1 (times 1 (times 1 (times 1 (times 1 (times 1 (times 1 16))))))))"));
+    MEASURE(played("(steps (times 10000 0))"));
+    MEASURE(played("(show)"));
+}
+
+static unsigned long long stack_pointer(pid_t child)
+{
+    struct user_regs_struct registers;
+    ptrace(PTRACE_GETREGS, child, 0, &registers);
+    return registers.rsp;
+}
+
+/* Whether the process stopped at a mark and not after a single step. */
+static int at_mark(pid_t child)
+{
+    siginfo_t info;
+    ptrace(PTRACE_GETSIGINFO, child, 0, &info);
+    return info.si_code == SI_KERNEL;
+}
+
+/* Steps on until the next mark or the end; answers how far the stack went below where it is now. */
+static unsigned long long deepest(pid_t child, int *status)
+{
+    unsigned long long top = stack_pointer(child), low = top;
+    for (;;) {
+        ptrace(PTRACE_SINGLESTEP, child, 0, 0);
+        waitpid(child, status, 0);
+        if (!WIFSTOPPED(*status))
+            return top - low;
+        unsigned long long now = stack_pointer(child);
+        /* both marks of a call stand in one frame */
+        if (now == top && at_mark(child))
+            return top - low;
+        if (now < low)
+            low = now;
+    }
+}
+
+int main(int count, char **words)
+{
+    pid_t child = fork();
+    if (child == 0) {
+        ptrace(PTRACE_TRACEME, 0, 0, 0);
+        if (count > 1) {
+            char *none[] = {NULL};
+            execve(words[1], words + 1, none);
+            _exit(1);
+        }
+        calls();
+        _exit(0);
+    }
+    int status;
+    waitpid(child, &status, 0);
+    if (count > 1) {
+        printf("whole program\t%llu\n", deepest(child, &status));
+        return !WIFEXITED(status);
+    }
+    for (size_t i = 0; WIFSTOPPED(status) && i < sizeof names / sizeof *names; i++) {
+        printf("%s\t%llu\n", names[i], deepest(child, &status));
+        ptrace(PTRACE_CONT, child, 0, 0);
+        waitpid(child, &status, 0);
+    }
+    return !WIFEXITED(status);
+}
