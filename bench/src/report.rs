@@ -101,13 +101,15 @@ fn span(all: &Numbers, engine: &str, what: &str) -> String {
 }
 
 fn kinds(all: &Numbers) {
-    println!("\nInstructions of one step in a run, by kind, over all nine sizes:\n");
-    println!("| step | ours | direct |\n|---|---|---|");
+    const KINDS: [&str; 4] = ["write", "read own", "read empty", "last read"];
+    println!("\nInstructions of one step in a run, by kind, over all nine sizes, ours / direct:\n");
+    println!("| array |{}\n|---|---|---|---|---|", KINDS.map(|kind| format!(" {kind} |")).concat());
     for array in ["m", "A", "B"] {
-        for kind in ["write", "read own", "read empty", "last read"] {
+        let cells = KINDS.map(|kind| {
             let what = format!("{kind} {array}");
-            println!("| {what} | {} | {} |", span(all, "ours", &what), span(all, "direct", &what));
-        }
+            format!(" {} / {} |", span(all, "ours", &what), span(all, "direct", &what))
+        });
+        println!("| {array} |{}", cells.concat());
     }
 }
 
