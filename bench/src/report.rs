@@ -124,8 +124,12 @@ fn plain(title: &str, head: &str, folder: &str, name: &str) {
 
 pub fn print(folder: &str) {
     let counts = numbers(folder, "counts");
-    table("Instructions, ours (over direct, over values):", &counts);
-    kinds(&counts);
+    if counts.is_empty() {
+        println!("\nNo instructions: there was no valgrind.");
+    } else {
+        table("Instructions, ours (over direct, over values):", &counts);
+        kinds(&counts);
+    }
     table("Nanoseconds on this machine, ours (over direct, over values):", &numbers(folder, "times"));
     let head = "| sheet | repeats | instructions of one | values' | the whole sheet | values' | time | values' |";
     plain("Sheets of 32,768 bytes, through the program:", head, folder, "sheets");
