@@ -9,6 +9,7 @@ ghost use Rattle.model.specs.Listing.{filled, flagOf, flagNumber, turnM, turnA,
 ghost use Rattle.model.specs.Layout.{boardLength, readRegister, registerValue, recordValue, readingOf};
 ghost use Rattle.model.specs.Sound.{sameRegister};
 ghost use Rattle.record_soundness.specs.Groups.{ownKept};
+use codec::places::register_offset;
 use codec::registers::register_at;
 use model::Record;
 use model::Register;
@@ -40,15 +41,15 @@ fn held(r: Register, flag: u8, island: u8, figure: i32) -> bool
 
 // The register of station index i in a row of n.
 fn column(s: &[u8], n: usize, row: usize, i: usize) -> Register
-    requires { ⌜ (8 + 8 * (n * row + i) + 8 ≤ length (now s)) × (n ≤ 16) × (row ≤ 129) ⌝ }
+    requires { ⌜ (8 + 8 * (n * row + i) + 8 ≤ length (now s)) × (n ≤ 16) × (row ≤ 129) × (i < n) ⌝ }
     ensures { λ r. ⌜ r ≡ readRegister (part (8 + 8 * (n * row + i)) 8 (now (s .entry))) ⌝ }
 {
-    register_at(s, 8 + 8 * (n * row + i))
+    register_at(s, register_offset(n, row, i))
 }
 
 // Phase 2: the pair of island and carried figure, and the best pair no lower.
 fn own_in_m(s: &[u8], n: usize, i: usize, f: Record) -> bool
-    requires { ⌜ (16 + 8 * i ≤ length (now s)) × (n ≤ 16) ⌝ }
+    requires { ⌜ (16 + 8 * i ≤ length (now s)) × (n ≤ 16) × (i < n) ⌝ }
     ensures { λ r. ⌜ r ≡ ownKept n i (now (s .entry)) (readingOf turnM f) ⌝ }
 {
     if !held(column(s, n, 0, i), 1, f.island, f.carried) {

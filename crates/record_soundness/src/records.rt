@@ -10,6 +10,7 @@ use crate::fields::fields_sound;
 use crate::own::own_sound;
 use crate::zeros::zero_pair;
 use crate::zeros::zero_word;
+use codec::places::record_offset;
 use codec::records::record_at;
 
 pub fn record_sound(s: &[u8], at: usize, n: usize, k: usize, i: usize) -> bool
@@ -30,10 +31,10 @@ pub fn record_sound(s: &[u8], at: usize, n: usize, k: usize, i: usize) -> bool
 }
 
 pub fn records_sound(s: &[u8], n: usize, k: usize) -> bool
-    requires { ⌜ (length (now s) ≡ boardLength n k) × (n ≤ 16) × (k ≤ 64) ⌝ }
+    requires { ⌜ (length (now s) ≡ boardLength n k) × (n ≤ 16) × (k ≤ 64) × (0 < n) ⌝ }
     ensures { λ r. ⌜ r ≡ every n (λ i. recordSound n k i (now (s .entry)) (recordOf n k i (now (s .entry)))) ⌝ }
 {
-    let mut at = 8 + 8 * (n * (1 + 2 * k));
+    let mut at = record_offset(n, k, 0);
     let mut i: usize = 0;
     while i < n {
         if !record_sound(s, at, n, k, i) {

@@ -10,6 +10,7 @@ ghost use Rattle.model.specs.Sound as Model;
 ghost use Rattle.model.specs.Calls.{boardRefusal};
 ghost use Rattle.model.specs.Told.{verdict};
 use crate::registers::registers_sound;
+use codec::places::board_length;
 use model::Verdict;
 use record_soundness::records::records_sound;
 use record_soundness::zeros::zero_pair;
@@ -59,7 +60,7 @@ pub fn check_board(board: &[u8]) -> Verdict
     if 64 < k {
         return Verdict::Refused { number: 9 };
     }
-    if board.len() != 8 + 32 * n + 16 * (n * k) {
+    if board.len() != board_length(n, k) {
         return Verdict::Refused { number: 10 };
     }
     if !sound(board, n, k) {

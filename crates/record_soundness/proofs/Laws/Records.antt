@@ -3,8 +3,8 @@
 use mathlib.Core.Path.{_≡_, sym, ap, _∙_, subst}
 use mathlib.Core.Bool.{Bool, true, false, _&&_}
 use mathlib.Core.List.{List, [], _∷_, _++_}
-use Prim.Native.Nat.{ℕ, suc, _+_, _*_, _≤_, _<_}
-use native.Mathlib.Nat.{lt-of-not-le, mul-le-mul-right}
+use Prim.Native.Nat.{ℕ, suc, _+_, _≤_, _<_}
+use native.Mathlib.Nat.{lt-of-not-le}
 use native.Mathlib.Decide.{decLe}
 use native.Mathlib.Omega.{arith}
 use lib.Dec.{T, lit<, lit≤}
@@ -146,11 +146,3 @@ module _ {n k i at : ℕ} {b : List ℕ} (p : Placed n k i at b) where
 pub record-next : (n k i : ℕ) → recordAt n k i + 24 ≡ recordAt n k (i + 1)
 unfolding recordAt
 record-next n k i = omega arith
-
-pub record-first : (n k : ℕ) → 8 + 8 * (n * (1 + 2 * k)) ≡ recordAt n k 0
-unfolding recordAt
-record-first n k = omega arith
-
--- the registers of the largest board
-pub rows-small : (n k : ℕ) → n ≤ 16 → k ≤ 64 → n * (1 + 2 * k) ≤ 2064
-rows-small n k h l = omega (arith, mul-le-mul-right (1 + 2 * k) h)

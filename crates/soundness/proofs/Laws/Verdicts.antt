@@ -4,8 +4,7 @@ use mathlib.Core.Path.{_≡_, sym, _∙_}
 use mathlib.Core.Bool.{true, false}
 use mathlib.Core.List.{List}
 use mathlib.Core.Option.{none, some}
-use Prim.Native.Nat.{ℕ, _+_, _*_, _≤_, _<_}
-use native.Mathlib.Nat.{mul-le-mul}
+use Prim.Native.Nat.{ℕ, _≤_, _<_}
 use native.Mathlib.Omega.{arith}
 use lib.ListN.{length}
 use Rattle.model.specs.Bytes.{byte}
@@ -39,13 +38,13 @@ module _ (b : List ℕ) where
       refused9-high h = sym (shape-9-high (stations b) (islands b) b _ long n-low n-high h)
 
       module _ (k-low : 2 ≤ byte b 1) (k-high : byte b 1 ≤ 64) where
-        pub refused10 : (length b ≡ 8 + 32 * byte b 0 + 16 * (byte b 0 * byte b 1) → ⊥) → some 10 ≡ boardRefusal b none
-        unfolding boardRefusal stations islands boardLength
+        pub refused10 : (length b ≡ boardLength (byte b 0) (byte b 1) → ⊥) → some 10 ≡ boardRefusal b none
+        unfolding boardRefusal stations islands
         refused10 f = sym (shape-10 (stations b) (islands b) b _ long n-low n-high k-low k-high f)
 
-        module _ (len : length b ≡ 8 + 32 * byte b 0 + 16 * (byte b 0 * byte b 1)) where
+        module _ (len : length b ≡ boardLength (byte b 0) (byte b 1)) where
           fits : Shape (stations b) (islands b) b
-          unfolding stations islands boardLength
+          unfolding stations islands
           fits = record { long = long; stations-low = n-low; stations-high = n-high; islands-low = k-low; islands-high = k-high; len = len }
 
           pub refused11 : sound (byte b 0) (byte b 1) b ≡ false → some 11 ≡ boardRefusal b none
@@ -55,15 +54,6 @@ module _ (b : List ℕ) where
           pub accepted : sound (byte b 0) (byte b 1) b ≡ true → none ≡ boardRefusal b none
           unfolding boardRefusal stations islands
           accepted e = sym (shape-passes (stations b) (islands b) b fits _ ∙ unless-passes (sound (stations b) (islands b) b) 11 none (true-T _ e))
-
--- the registers of the largest board
-pub product-small : (n k : ℕ) → n ≤ 16 → k ≤ 64 → n * k ≤ 1024
-product-small n k h l = mul-le-mul h l
-
--- the length that the code computes is the layout's
-pub length-is : (n k l : ℕ) → l ≡ 8 + 32 * n + 16 * (n * k) → l ≡ boardLength n k
-unfolding boardLength
-length-is n k l e = e
 
 pub long-enough : (n k : ℕ) (b : List ℕ) → length b ≡ boardLength n k → 8 ≤ length b
 unfolding boardLength

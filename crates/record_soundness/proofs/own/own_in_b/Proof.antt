@@ -31,7 +31,7 @@ add-column : tie.Need-add-column
 add-column c = search needs
 
 column-requires : tie.Need-column-requires
-column-requires c κs = (place-b (c .before .before .args .n) (c .before .before .args .k) (c .before .before .args .i) (c .before .before .args .f .island) (c .before .before .args .s .now) ((c .before .before .pre) .0) ((c .before .before .pre) .3) ((c .before .before .pre) .4), search needs, omega arith)
+column-requires c κs = (place-b (c .before .before .args .n) (c .before .before .args .k) (c .before .before .args .i) (c .before .before .args .f .island) (c .before .before .args .s .now) ((c .before .before .pre) .0) ((c .before .before .pre) .3) ((c .before .before .pre) .4), search needs, omega arith, c .before .before .pre .3)
 
 held-requires : tie.Need-held-requires
 held-requires c κs = search needs

@@ -8,7 +8,7 @@ use Rattle.record_soundness.proofs.own.own_sound.Statement.{statement}
 use Rattle.record_soundness.proofs.own.own_sound.Tie as tie
 
 own-in-m-requires : tie.Need-own-in-m-requires
-own-in-m-requires c κs = (place-m (c .before .before .before .args .n) (c .before .before .before .args .k) (c .before .before .before .args .i) 0 (c .before .before .before .args .s .now) ((c .before .before .before .pre) .0) ((c .before .before .before .pre) .3), search needs)
+own-in-m-requires c κs = (place-m (c .before .before .before .args .n) (c .before .before .before .args .k) (c .before .before .before .args .i) 0 (c .before .before .before .args .s .now) ((c .before .before .before .pre) .0) ((c .before .before .before .pre) .3), search needs, c .before .before .before .pre .3)
 
 returns : tie.Need-returns
 unfolding ofPhase

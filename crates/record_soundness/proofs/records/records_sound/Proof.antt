@@ -9,7 +9,7 @@ use Rattle.model.specs.Layout.{recordAt, recordOf}
 use Rattle.model.specs.Sound.{recordSound}
 use Rattle.record_soundness.proofs.Laws.Chains.{no, yes}
 use Rattle.record_soundness.proofs.Laws.Loops.{every-none, every-more, every-end, every-fails}
-use Rattle.record_soundness.proofs.Laws.Records.{record-place, record-next, record-first, rows-small, Placed}
+use Rattle.record_soundness.proofs.Laws.Records.{record-place, record-next, Placed}
 use Rattle.record_soundness.proofs.records.records_sound.Statement.{statement}
 use Rattle.record_soundness.proofs.records.records_sound.Tie as tie
 
@@ -20,35 +20,23 @@ Inv-loop s n k at₀ i₀ at i =
 abbrev μ-loop : tie.MeasureT-loop
 μ-loop s n k at₀ i₀ at i = n - i
 
-placed : (c : tie.In-loop Inv-loop μ-loop) → Placed (c .before .before .before .args .n) (c .before .before .before .args .k) (c .before .loop .i) (c .before .loop .at) (c .before .before .before .args .s .now)
-placed c = record { len = c .before .before .before .pre .0; station = c .loop-test .taken; place = c .before .loop .inv .1 }
+placed : (c : tie.In-loop Inv-loop μ-loop) → Placed (c .before .before .before .before .args .n) (c .before .before .before .before .args .k) (c .before .loop .i) (c .before .loop .at) (c .before .before .before .before .args .s .now)
+placed c = record { len = c .before .before .before .before .pre .0; station = c .loop-test .taken; place = c .before .loop .inv .1 }
 
-mul-at : tie.Need-mul-at Inv-loop μ-loop
-mul-at c = search needs
-
-add-at : tie.Need-add-at Inv-loop μ-loop
-add-at c = search needs
-
-mul-at-2 : tie.Need-mul-at-2 Inv-loop μ-loop
-mul-at-2 c = omega (arith, (rows-small (c .before .args .n) (c .before .args .k) ((c .before .pre) .1) ((c .before .pre) .2)))
-
-mul-at-3 : tie.Need-mul-at-3 Inv-loop μ-loop
-mul-at-3 c = omega (arith, (rows-small (c .before .args .n) (c .before .args .k) ((c .before .pre) .1) ((c .before .pre) .2)))
-
-add-at-2 : tie.Need-add-at-2 Inv-loop μ-loop
-add-at-2 c = omega (arith, (rows-small (c .before .args .n) (c .before .args .k) ((c .before .pre) .1) ((c .before .pre) .2)))
+record-offset-requires : tie.Need-record-offset-requires Inv-loop μ-loop
+record-offset-requires c κs = search needs
 
 loop-holds : tie.Need-loop-holds Inv-loop μ-loop
-loop-holds c = (search needs, record-first _ _, every-none _)
+loop-holds c = (search needs, c .record-offset .ensures, every-none _)
 
 record-sound-requires : tie.Need-record-sound-requires Inv-loop μ-loop
-record-sound-requires c κs = ((c .before .before .before .pre) .0, (c .before .before .before .pre) .1, (c .before .before .before .pre) .2, (c .loop-test .taken), (c .before .loop .inv) .1)
+record-sound-requires c κs = ((c .before .before .before .before .pre) .0, (c .before .before .before .before .pre) .1, (c .before .before .before .before .pre) .2, (c .loop-test .taken), (c .before .loop .inv) .1)
 
 returns : tie.Need-returns Inv-loop μ-loop
 returns c = every-fails _ _ _ (c .before .before .loop-test .taken) (no _ _ (c .before .record-sound .ensures) (c .if1 .taken))
 
-add-at-3 : tie.Need-add-at-3 Inv-loop μ-loop
-add-at-3 c = omega (arith, record-place (placed (c .before .before)))
+add-at : tie.Need-add-at Inv-loop μ-loop
+add-at c = omega (arith, record-place (placed (c .before .before)))
 
 add-i : tie.Need-add-i Inv-loop μ-loop
 add-i c = search needs
@@ -57,7 +45,7 @@ loop-less : tie.Need-loop-less Inv-loop μ-loop
 loop-less c = search needs
 
 loop-again : tie.Need-loop-again Inv-loop μ-loop
-loop-again c = (omega arith, ap (λ (x : ℕ). x + 24) ((c .before .before .before .loop .inv) .1) ∙ record-next (c .before .before .before .before .before .args .n) (c .before .before .before .before .before .args .k) (c .before .before .before .loop .i), every-more _ _ ((c .before .before .before .loop .inv) .2) (yes _ _ (c .before .record-sound .ensures) (c .if1 .left)))
+loop-again c = (omega arith, ap (λ (x : ℕ). x + 24) ((c .before .before .before .loop .inv) .1) ∙ record-next (c .before .before .before .before .before .before .args .n) (c .before .before .before .before .before .before .args .k) (c .before .before .before .loop .i), every-more _ _ ((c .before .before .before .loop .inv) .2) (yes _ _ (c .before .record-sound .ensures) (c .if1 .left)))
 
 returns-2 : tie.Need-returns-2 Inv-loop μ-loop
 returns-2 c = every-end _ _ _ ((c .before .loop .inv) .0) (c .loop-test .left) ((c .before .loop .inv) .2)
@@ -68,15 +56,11 @@ records-sound-spec =
     (tie.spec
     Inv-loop
     μ-loop
-    mul-at
-    add-at
-    mul-at-2
-    mul-at-3
-    add-at-2
+    record-offset-requires
     loop-holds
     record-sound-requires
     returns
-    add-at-3
+    add-at
     add-i
     loop-less
     loop-again

@@ -1,10 +1,10 @@
 -- `check_board`: each return is its refusal, where the tests before it passed.
 use borrow.Author.Needs.{needs}
+use mathlib.Core.Path.{sym, _∙_}
 use native.Mathlib.Omega.{arith}
-use Rattle.model.specs.Bytes.{byte}
 use Rattle.model.specs.Told.{verdict}
 use Rattle.record_soundness.proofs.Laws.Chains.{no, yes}
-use Rattle.soundness.proofs.Laws.Verdicts.{refused7, refused8-low, refused8-high, refused9-low, refused9-high, refused10, refused11, accepted, product-small, length-is}
+use Rattle.soundness.proofs.Laws.Verdicts.{refused7, refused8-low, refused8-high, refused9-low, refused9-high, refused10, refused11, accepted}
 use Rattle.soundness.proofs.board.check_board.Statement.{statement}
 use Rattle.soundness.proofs.board.check_board.Tie as tie
 
@@ -40,35 +40,23 @@ returns-5 : tie.Need-returns-5
 unfolding verdict
 returns-5 c = refused9-high _ (c .before .before .before .before .before .before .if1 .left) (c .before .before .before .before .if2 .left) (c .before .before .before .if3 .left) (c .if5 .taken)
 
-mul-if6 : tie.Need-mul-if6
-mul-if6 c = search needs
-
-add-if6 : tie.Need-add-if6
-add-if6 c = search needs
-
-mul-if6-2 : tie.Need-mul-if6-2
-mul-if6-2 c = omega (arith, (product-small (byte (c .before .before .before .before .before .before .before .before .args .board .now) 0) (byte (c .before .before .before .before .before .before .before .before .args .board .now) 1) (c .before .before .before .if3 .left) (c .if5 .left)))
-
-mul-if6-3 : tie.Need-mul-if6-3
-mul-if6-3 c = omega (arith, (product-small (byte (c .before .before .before .before .before .before .before .before .args .board .now) 0) (byte (c .before .before .before .before .before .before .before .before .args .board .now) 1) (c .before .before .before .if3 .left) (c .if5 .left)))
-
-add-if6-2 : tie.Need-add-if6-2
-add-if6-2 c = omega (arith, (product-small (byte (c .before .before .before .before .before .before .before .before .args .board .now) 0) (byte (c .before .before .before .before .before .before .before .before .args .board .now) 1) (c .before .before .before .if3 .left) (c .if5 .left)))
+board-length-requires : tie.Need-board-length-requires
+board-length-requires c κs = search needs
 
 returns-6 : tie.Need-returns-6
 unfolding verdict
-returns-6 c = refused10 _ (c .before .before .before .before .before .before .before .if1 .left) (c .before .before .before .before .before .if2 .left) (c .before .before .before .before .if3 .left) (c .before .before .if4 .left) (c .before .if5 .left) (c .if6 .taken)
+returns-6 c = refused10 _ (c .before .before .before .before .before .before .before .before .if1 .left) (c .before .before .before .before .before .before .if2 .left) (c .before .before .before .before .before .if3 .left) (c .before .before .before .if4 .left) (c .before .before .if5 .left) (λ e. c .if6 .taken (e ∙ sym (c .before .board-length .ensures)))
 
 sound-requires : tie.Need-sound-requires
-sound-requires c κs = (length-is _ _ _ (c .if6 .left), (c .before .before .before .before .before .if2 .left), (c .before .before .before .before .if3 .left), (c .before .before .if4 .left), (c .before .if5 .left))
+sound-requires c κs = (c .if6 .left ∙ c .before .board-length .ensures, c .before .before .before .before .before .before .if2 .left, c .before .before .before .before .before .if3 .left, c .before .before .before .if4 .left, c .before .before .if5 .left)
 
 returns-7 : tie.Need-returns-7
 unfolding verdict
-returns-7 c = refused11 _ (c .before .before .before .before .before .before .before .before .before .if1 .left) (c .before .before .before .before .before .before .before .if2 .left) (c .before .before .before .before .before .before .if3 .left) (c .before .before .before .before .if4 .left) (c .before .before .before .if5 .left) (c .before .before .if6 .left) (no _ _ (c .before .sound .ensures) (c .if7 .taken))
+returns-7 c = refused11 _ (c .before .before .before .before .before .before .before .before .before .before .if1 .left) (c .before .before .before .before .before .before .before .before .if2 .left) (c .before .before .before .before .before .before .before .if3 .left) (c .before .before .before .before .before .if4 .left) (c .before .before .before .before .if5 .left) (c .before .before .if6 .left ∙ c .before .before .before .board-length .ensures) (no _ _ (c .before .sound .ensures) (c .if7 .taken))
 
 returns-8 : tie.Need-returns-8
 unfolding verdict
-returns-8 c = accepted _ (c .before .before .before .before .before .before .before .before .before .if1 .left) (c .before .before .before .before .before .before .before .if2 .left) (c .before .before .before .before .before .before .if3 .left) (c .before .before .before .before .if4 .left) (c .before .before .before .if5 .left) (c .before .before .if6 .left) (yes _ _ (c .before .sound .ensures) (c .if7 .left))
+returns-8 c = accepted _ (c .before .before .before .before .before .before .before .before .before .before .if1 .left) (c .before .before .before .before .before .before .before .before .if2 .left) (c .before .before .before .before .before .before .before .if3 .left) (c .before .before .before .before .before .if4 .left) (c .before .before .before .before .if5 .left) (c .before .before .if6 .left ∙ c .before .before .before .board-length .ensures) (yes _ _ (c .before .sound .ensures) (c .if7 .left))
 
 pub check-board-spec : {M : Type 1} → statement M
 check-board-spec =
@@ -83,11 +71,7 @@ check-board-spec =
     cast-k
     returns-4
     returns-5
-    mul-if6
-    add-if6
-    mul-if6-2
-    mul-if6-3
-    add-if6-2
+    board-length-requires
     returns-6
     sound-requires
     returns-7
