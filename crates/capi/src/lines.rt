@@ -1,5 +1,5 @@
 // The calls that hand back a line or a part of one, for C: a line goes to the front of a lent buffer.
-// Relies on the calls, the reader of lines and the player; a station's firmware relies on it.
+// Relies on the calls, the lexer's word and the player; a station's firmware relies on it.
 ghost use mathlib.Core.Path.{_≡_};
 ghost use Rattle.model.specs.Show.{show};
 ghost use Rattle.model.specs.Forms.{formWord};

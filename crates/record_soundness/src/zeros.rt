@@ -1,5 +1,5 @@
 // Two and four bytes that are zero.
-// Relies on codec's words; registers, records and the board's head rely on it.
+// Relies on words of four bytes; registers, records and the board's head rely on it.
 ghost use mathlib.Core.Path.{_≡_};
 ghost use Prim.Native.Nat.{_+_, _≤_};
 ghost use lib.ListN.{length};

@@ -1,5 +1,5 @@
 // The registers of a board: each empty or filled as its array allows.
-// Relies on zeros; the board's test relies on it.
+// Relies on words of four bytes and on zeros; the board's test relies on it.
 ghost use mathlib.Core.Path.{_≡_};
 ghost use mathlib.Core.Bool.{_&&_};
 ghost use Prim.Native.Nat.{_+_, _*_, _≤_};
