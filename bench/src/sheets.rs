@@ -1,12 +1,11 @@
-//! Run sheets that cost the most: as many lines as 32,768 bytes hold.
+//! Run sheets that ask for the most: as many lines as 32,768 bytes hold.
 
 use reference::sheet::LONGEST_SHEET;
 
 /// A line may count 65,536 steps, and only steps that are refused can be had so often. 24 bytes a line: 89 million steps.
 const FLAT: &str = "(steps (times 65536 1))";
 
-/// Eight brackets, as deep as a line may go. The program reads the items again at each repetition, so that a bracket of
-/// ten bytes costs more than the step behind it.
+/// Eight brackets, as deep as a line may go: the program reads the items again at each repetition that takes a step.
 const NESTED: &str = "(steps (times 65536 (times 1 (times 1 (times 1 (times 1 (times 1 (times 1 1))))))))";
 
 /// The shortest line that looks at a whole board.
