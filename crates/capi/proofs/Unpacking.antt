@@ -3,9 +3,9 @@
 -- Relies on the packing's definitions; nothing relies on it but the reader of an answer.
 use mathlib.Core.Path.{_≡_, refl, ap}
 use mathlib.Core.Bool.{Bool, true, false, _&&_}
-use mathlib.Core.List.{List, _∷_}
+use mathlib.Core.List.{List}
 use mathlib.Core.Option.{none, some}
-use Prim.Native.Nat.{ℕ, _+_, _*_, _/_, _%_, _≤_, _<_}
+use Prim.Native.Nat.{ℕ, suc, _/_, _%_, _≤_, _<_}
 use native.Mathlib.Omega.{arith}
 use lib.Dec.{eqb, leb}
 use lib.ListN.{length}
@@ -16,8 +16,8 @@ use Rattle.model.specs.Show.{shownLine, shownAs, show}
 use Rattle.model.specs.Sheet.{playLine}
 use Rattle.player.specs.declared.line.Played.{Played}
 use Rattle.player.specs.Played.{Plays}
-use Rattle.packing.specs.Packing.{packed, packVerdict, packRun}
-use Rattle.capi.specs.Lines.{packShow, packWord, packPlayed}
+use Rattle.packing.specs.Packing.{packed, packVerdict, packRun, packWord}
+use Rattle.capi.specs.Lines.{packShow, packPlayed}
 use Rattle.capi.proofs.Laws.Lines.{shown-fits, line-laid}
 
 -- a step's four parts; the code's kind and island, or flag, are bytes
@@ -96,13 +96,13 @@ the-length b = omega (arith, shown-listed b)
 
 -- ---- a word that was found
 
-pub the-start : (b : ℕ) (w : List ℕ) → packWord (b ∷ w) % 4294967296 ≡ 1
+pub the-start : (k : ℕ) → packWord (suc k) % 4294967296 ≡ 1
 unfolding packWord
-the-start b w = omega arith
+the-start k = omega arith
 
-pub its-length : (b : ℕ) (w : List ℕ) → packWord (b ∷ w) / 4294967296 ≡ length (b ∷ w)
+pub its-length : (k : ℕ) → packWord (suc k) / 4294967296 ≡ suc k
 unfolding packWord
-its-length b w = omega arith
+its-length k = omega arith
 
 -- ---- a line that was played: what the player promises of it bounds both parts
 

@@ -2,7 +2,7 @@
 -- Relies on the model's lines; the contracts of the calls for C rely on it.
 use Prim.Native.Nat.{ℕ, _+_, _*_, _-_}
 use mathlib.Core.Bool.{cond, _&&_}
-use mathlib.Core.List.{List, [], _∷_, _++_}
+use mathlib.Core.List.{List, _++_}
 use lib.Dec.{leb}
 use lib.ListN.{length, drop, replicate}
 use Rattle.model.specs.Show.{Shown}
@@ -29,11 +29,6 @@ module _ {A : Type 0} where
 -- bits 0 to 7 the refusal's number, 16 to 31 the line's length
 unfoldable pub packShow : Shown → ℕ
 packShow s = packVerdict (s .refusal) + s .len * 65536
-
--- bits 0 to 31 where the word starts in the line, 32 to 63 its length; 0 for no word
-unfoldable pub packWord : List ℕ → ℕ
-packWord [] = 0
-packWord (b ∷ w) = 1 + length (b ∷ w) * 4294967296
 
 -- bits 0 to 15 the length of what is printed, 16 to 63 how many bytes of the memory are the board that was laid last
 unfoldable pub packPlayed : Played → ℕ

@@ -4,7 +4,7 @@ ghost use mathlib.Core.Path.{_≡_};
 ghost use mathlib.Core.Option.{none};
 ghost use Rattle.model.specs.Calls.{boardRefusal, lay, propose, step, run};
 ghost use Rattle.packing.specs.Packing.{packVerdict, packStep, packRun};
-use model::RunVerdict;
+use packing::run_number;
 use packing::step_number;
 use packing::verdict_number;
 
@@ -40,9 +40,5 @@ pub extern "C" fn lufanelis_step(board: &mut [u8], station: u8) -> u64
 pub extern "C" fn lufanelis_run(board: &mut [u8], stations: &[u8]) -> u64
     ensures { λ r. ⌜ (r ≡ packRun (run (now (stations .entry)) (now (board .entry)) .answer)) × (now (board .exit) ≡ run (now (stations .entry)) (now (board .entry)) .bytes) ⌝ }
 {
-    let answer = calls::run(board, stations);
-    match answer {
-        RunVerdict::Refused { number } => number as u64,
-        RunVerdict::Ran { taken, passed } => taken as u64 * 256 + passed as u64 * 4294967296,
-    }
+    run_number(calls::run(board, stations))
 }

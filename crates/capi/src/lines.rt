@@ -4,8 +4,11 @@ ghost use mathlib.Core.Path.{_≡_};
 ghost use Rattle.model.specs.Show.{show};
 ghost use Rattle.model.specs.Forms.{formWord};
 ghost use Rattle.model.specs.Sheet.{playLine};
-ghost use Rattle.capi.specs.Lines.{inRoom, playable, handed, packShow, packWord, packPlayed, filled};
+ghost use Rattle.capi.specs.Lines.{inRoom, playable, handed, packShow, packPlayed, filled};
+ghost use Rattle.packing.specs.Packing.{packWord};
+ghost use lib.ListN.{length};
 use packing::verdict_number;
+use packing::word_number;
 
 // The number for a call that cannot be made: no other case gives it.
 const NO_ROOM: u32 = 0xFFFFFFFF;
@@ -28,13 +31,10 @@ pub extern "C" fn lufanelis_show(board: &[u8], line: &mut [u8]) -> u32
 
 #[no_mangle]
 pub extern "C" fn lufanelis_word(line: &[u8]) -> u64
-    ensures { λ r. ⌜ r ≡ packWord (formWord (now (line .entry))) ⌝ }
+    ensures { λ r. ⌜ r ≡ packWord (length (formWord (now (line .entry)))) ⌝ }
 {
     let word = lexer::word::form_word(line);
-    if word.len() == 0 {
-        return 0;
-    }
-    1 + word.len() as u64 * 4294967296
+    word_number(word.len())
 }
 
 #[no_mangle]

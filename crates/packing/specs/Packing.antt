@@ -1,9 +1,11 @@
 -- Answers as numbers: the place of each part is a factor, so that the parts stand side by side in the bits.
 -- Relies on the model's answers; the contracts of the calls for C rely on it.
-use Prim.Native.Nat.{ℕ, _+_, _*_}
+use Prim.Native.Nat.{ℕ, zero, suc, _+_, _*_, _≤_}
 use mathlib.Core.Option.{none, some}
 use mir.Syntax.{w32}
 use mir.Val.{ofZ}
+use Rattle.model.specs.declared.RunVerdict.{RunVerdict}
+use Rattle.model.specs.declared.RunVerdict.the-variants.{Ran, Refused}
 use Rattle.model.specs.Figure.{Figure}
 use Rattle.model.specs.Listing.{Answer, wrote, read, went, marked, adopted, decided, spent, refused}
 use Rattle.model.specs.Calls.{Refusal, RunAnswer, ran, notRun}
@@ -31,7 +33,17 @@ packStep (decided c v) = packed 0 6 c (bits v)
 packStep (spent c v) = packed 0 7 c (bits v)
 packStep (refused k) = packed k 0 0 0
 
+-- a run's counts have room in their bits
+unfoldable pub Few : RunVerdict → Type 0
+Few (Ran s t) = s + t ≤ 65536
+Few (Refused k) = Unit {0}
+
 -- bits 0 to 7 the refusal's number, 8 to 31 the steps taken, 32 to 55 the steps passed over
 unfoldable pub packRun : RunAnswer → ℕ
 packRun (ran s t) = s * 256 + t * 4294967296
 packRun (notRun k) = k
+
+-- bits 0 to 31 where a word starts in its line, behind the bracket, 32 to 63 its length; 0 for no word
+unfoldable pub packWord : (len : ℕ) → ℕ
+packWord zero = 0
+packWord (suc k) = 1 + suc k * 4294967296

@@ -1,9 +1,11 @@
 // Answers packed into one number.
 // Relies on a figure's bits; the calls for C rely on it.
 ghost use mathlib.Core.Path.{_≡_};
-ghost use Rattle.model.specs.Told.{told, verdict};
-ghost use Rattle.packing.specs.Packing.{bits, packed, packVerdict, packStep};
+ghost use Prim.Native.Nat.{_≤_};
+ghost use Rattle.model.specs.Told.{told, verdict, runTold};
+ghost use Rattle.packing.specs.Packing.{bits, packed, packVerdict, packStep, packRun, packWord, Few};
 use figures::bits_of;
+use model::RunVerdict;
 use model::StepAnswer;
 use model::Verdict;
 
@@ -36,4 +38,25 @@ pub fn step_number(answer: StepAnswer) -> u64
         StepAnswer::Spent { island, figure } => told_of(7, island, figure),
         StepAnswer::Refused { number } => number as u64,
     }
+}
+
+pub fn run_number(answer: RunVerdict) -> u64
+    requires { ⌜ Few answer ⌝ }
+    ensures { λ r. ⌜ r ≡ packRun (runTold answer) ⌝ }
+{
+    match answer {
+        RunVerdict::Refused { number } => number as u64,
+        RunVerdict::Ran { taken, passed } => taken as u64 * 256 + passed as u64 * 4294967296,
+    }
+}
+
+// By the word's length.
+pub fn word_number(len: usize) -> u64
+    requires { ⌜ len ≤ 255 ⌝ }
+    ensures { λ r. ⌜ r ≡ packWord len ⌝ }
+{
+    if len == 0 {
+        return 0;
+    }
+    1 + len as u64 * 4294967296
 }

@@ -1,9 +1,9 @@
 -- The calls on a lent board: a call's own promise, with its answer packed.
 -- Relies on the packing's definitions and on the model's runs; the proofs of `board` rely on it.
-use mathlib.Core.Path.{_≡_, sym, ap, _∙_}
+use mathlib.Core.Path.{_≡_, refl, sym, ap, _∙_}
 use mathlib.Core.List.{List}
 use mathlib.Core.Option.{none}
-use Prim.Native.Nat.{ℕ, _+_, _*_, _≤_, _<_}
+use Prim.Native.Nat.{ℕ, _+_, _≤_}
 use native.Mathlib.Omega.{arith}
 use lib.Dec.{leb, leb→le}
 use lib.ListN.{length}
@@ -16,7 +16,7 @@ use Rattle.model.specs.Calls.{After, Refusal, RunAnswer, ran, notRun, unless, b
 use Rattle.model.specs.Told.{verdict, runTold}
 use Rattle.model.proofs.Calls.Refusals.{call-case, unless-none}
 use Rattle.model.proofs.Calls.Runs.{taken, passed, answers, ran-is, ran-both}
-use Rattle.packing.specs.Packing.{packVerdict, packRun}
+use Rattle.packing.specs.Packing.{packVerdict, packRun, Few}
 
 -- ---- verdicts
 
@@ -49,18 +49,13 @@ few is b s t =
         omega (arith, ran-both step b is, leb→le (length is) 65536 (unless-none (leb (length is) 65536) 6 (boardRefusal b none) e .0))
 
 module _ (is b : List ℕ) (w : RunVerdict) (d : List ℕ) (answered : (runTold w ≡ run is b .answer) × (d ≡ run is b .bytes)) where
-  pub run-refused : (k : ℕ) → w ≡ runs.Refused k → (k ≡ packRun (run is b .answer)) × (d ≡ run is b .bytes)
-  unfolding packRun runTold
-  run-refused k e = (ap packRun (sym (ap runTold e) ∙ answered .0), answered .1)
+  -- the counts fit their bits
+  pub run-few : Few w
+  run-few = go w refl
+    where
+      go : (v : RunVerdict) → w ≡ v → Few v
+      go (runs.Ran s t) e = unfold Few in few is b s t (sym (answered .0) ∙ ap runTold e ∙ (unfold runTold in refl))
+      go (runs.Refused k) e = unfold Few in tt
 
-  module _ (s t : ℕ) (e : w ≡ runs.Ran s t) where
-    its-counts : run is b .answer ≡ ran s t
-    unfolding runTold
-    its-counts = sym (answered .0) ∙ ap runTold e
-
-    pub counts-fit : s * 256 + t * 4294967296 < 18446744073709551616
-    counts-fit = omega (arith, few is b s t its-counts)
-
-    pub run-counts : (s * 256 + t * 4294967296 ≡ packRun (run is b .answer)) × (d ≡ run is b .bytes)
-    unfolding packRun
-    run-counts = (ap packRun (sym its-counts), answered .1)
+  pub run-packed : (r : ℕ) → r ≡ packRun (runTold w) → (r ≡ packRun (run is b .answer)) × (d ≡ run is b .bytes)
+  run-packed r h = (h ∙ ap packRun (answered .0), answered .1)

@@ -2,7 +2,7 @@
 -- Relies on the model's lines and forms; the proofs of `lines` rely on it.
 use mathlib.Core.Path.{_≡_, refl, sym, ap, _∙_, subst}
 use mathlib.Core.Bool.{Bool, true, false, cond, _&&_}
-use mathlib.Core.List.{List, [], _∷_, _++_}
+use mathlib.Core.List.{List, [], _++_}
 use mathlib.Core.Option.{Option, none, some}
 use Prim.Native.Nat.{ℕ, _+_, _*_, _≤_, _<_}
 use native.Mathlib.Nat.{mul-le-mul}
@@ -26,8 +26,8 @@ use Rattle.model.proofs.Sheet.WrittenBack.{same-text}
 use Rattle.model.proofs.Calls.Refusals.{Shape, shape-of, some-none, call-case, unless-none, board-of}
 use Rattle.player.specs.declared.line.Played.{Played}
 use Rattle.player.specs.Played.{Plays}
-use Rattle.packing.specs.Packing.{packVerdict}
-use Rattle.capi.specs.Lines.{handed, filled, inRoom, playable, packWord, packShow, packPlayed}
+use Rattle.packing.specs.Packing.{packVerdict, packWord}
+use Rattle.capi.specs.Lines.{handed, filled, inRoom, playable, packShow, packPlayed}
 
 -- ---- words
 
@@ -45,25 +45,12 @@ short-word l =
     (one-of (firstWord l) (text "steps") _ refl (omega arith) stepsWord _
     (one-of (firstWord l) (text "show") _ refl (omega arith) showWord none (omega arith))))
 
-packs-none : (w : List ℕ) → length w ≡ 0 → 0 ≡ packWord w
-unfolding packWord
-packs-none [] e = refl
-packs-none (b ∷ w) e = absurd (omega arith)
-
-packs-some : (w : List ℕ) → (length w ≡ 0 → ⊥) → 1 + length w * 4294967296 ≡ packWord w
-unfolding packWord
-packs-some [] f = absurd (f refl)
-packs-some (b ∷ w) f = refl
-
 module _ (l w : List ℕ) (e : w ≡ formWord l) where
-  pub word-none : length w ≡ 0 → 0 ≡ packWord (formWord l)
-  word-none h = packs-none w h ∙ ap packWord e
+  pub word-fits : length w ≤ 255
+  word-fits = omega (arith, ap length e, short-word l)
 
-  pub word-fits : length w ≤ 7
-  word-fits = subst (λ (x : List ℕ). length x ≤ 7) (sym e) (short-word l)
-
-  pub word-some : (length w ≡ 0 → ⊥) → 1 + length w * 4294967296 ≡ packWord (formWord l)
-  word-some f = packs-some w f ∙ ap packWord e
+  pub word-is : (r : ℕ) → r ≡ packWord (length w) → r ≡ packWord (length (formWord l))
+  word-is r h = h ∙ ap (λ (x : List ℕ). packWord (length x)) e
 
 -- ---- a lent buffer
 

@@ -1,7 +1,7 @@
 -- The packing: what each return of a packing function has to show.
 -- Relies on the packing's definitions and on the model's numbers; the functions' proofs rely on it.
-use mathlib.Core.Path.{_≡_, sym, ap, _∙_}
-use Prim.Native.Nat.{ℕ, _+_, _*_}
+use mathlib.Core.Path.{_≡_, refl, sym, ap, _∙_, subst}
+use Prim.Native.Nat.{ℕ, zero, suc, _+_, _*_, _≤_, _<_}
 use native.Mathlib.Omega.{arith}
 use mir.Syntax.{w32}
 use mir.Val.{ofZ}
@@ -10,8 +10,10 @@ use Rattle.model.specs.declared.StepAnswer.the-variants.{Wrote, Read, Went, Mar
 use Rattle.model.specs.declared.Verdict.{Verdict}
 use Rattle.model.specs.declared.Verdict.the-variants as verdicts
 use Rattle.model.specs.Figure.{Figure}
-use Rattle.model.specs.Told.{told, verdict}
-use Rattle.packing.specs.Packing.{bits, packed, packVerdict, packStep}
+use Rattle.model.specs.declared.RunVerdict.{RunVerdict}
+use Rattle.model.specs.declared.RunVerdict.the-variants as runs
+use Rattle.model.specs.Told.{told, verdict, runTold}
+use Rattle.packing.specs.Packing.{bits, packed, packVerdict, packStep, packRun, packWord, Few}
 
 -- ---- verdicts
 
@@ -67,3 +69,26 @@ module _ (a : StepAnswer) (c : ℕ) (v z : Figure) (r : ℕ) (s : z ≡ v) where
   pub spent-is : a ≡ Spent c v → r ≡ packed 0 7 c (bits z) → r ≡ packStep (told a)
   unfolding packStep told
   spent-is e h = same-bits 7 h ∙ ap (λ (x : StepAnswer). packStep (told x)) (sym e)
+
+-- ---- runs and words
+
+pub turned-down-is : (w : RunVerdict) (k : ℕ) → w ≡ runs.Refused k → k ≡ packRun (runTold w)
+unfolding packRun runTold
+turned-down-is w k e = ap (λ (x : RunVerdict). packRun (runTold x)) (sym e)
+
+pub counts-fit : (w : RunVerdict) (s t : ℕ) → Few w → w ≡ runs.Ran s t → s * 256 + t * 4294967296 < 18446744073709551616
+unfolding Few
+counts-fit w s t h e = let f : s + t ≤ 65536 = subst Few e h in omega arith
+
+pub counts-are : (w : RunVerdict) (s t : ℕ) → w ≡ runs.Ran s t → s * 256 + t * 4294967296 ≡ packRun (runTold w)
+unfolding packRun runTold
+counts-are w s t e = ap (λ (x : RunVerdict). packRun (runTold x)) (sym e)
+
+pub no-word : (n : ℕ) → n ≡ 0 → 0 ≡ packWord n
+unfolding packWord
+no-word n e = ap packWord (sym e)
+
+pub some-word : (n : ℕ) → (n ≡ 0 → ⊥) → 1 + n * 4294967296 ≡ packWord n
+unfolding packWord
+some-word zero f = absurd (f refl)
+some-word (suc k) f = refl
