@@ -4,7 +4,9 @@ ghost use mathlib.Core.Path.{_≡_};
 ghost use Prim.Native.Nat.{_+_, _≤_};
 ghost use lib.ListN.{length};
 ghost use Rattle.model.specs.Bytes.{part, splice};
+ghost use Rattle.model.specs.Figure.{figureBytes};
 ghost use Rattle.model.specs.Layout.{readRecord, layRecord};
+ghost use Rattle.codec.specs.Over.{phaseOver, collectedOver, startedOver};
 use crate::cells::put_cell;
 use figures::figure_at;
 use figures::figure_bytes;
@@ -55,4 +57,45 @@ pub fn put_record(board: &mut [u8], at: usize, r: Record)
         [v[0], v[1], v[2], v[3], x[0], x[1], x[2], x[3]],
     );
     put_cell(board, at + 16, [y[0], y[1], y[2], y[3], 0, 0, 0, 0]);
+}
+
+// Stored byte by byte, which compiles to one store; an array that is copied would be put together by shifts.
+fn put_figure(board: &mut [u8], at: usize, v: i32)
+    requires { ⌜ at + 4 ≤ length (now board) ⌝ }
+    ensures { λ _. ⌜ now (board .exit) ≡ splice at (figureBytes v) (now (board .entry)) ⌝ }
+{
+    let f = figure_bytes(v);
+    board[at] = f[0];
+    board[at + 1] = f[1];
+    board[at + 2] = f[2];
+    board[at + 3] = f[3];
+}
+
+// Three parts of a record, each put where the rest of the record stands already.
+pub fn put_phase(board: &mut [u8], at: usize, r: Record)
+    requires { ⌜ at + 24 ≤ length (now board) ⌝ }
+    ensures { λ _. ⌜ now (board .exit) ≡ phaseOver r at (now (board .entry)) ⌝ }
+{
+    board[at] = r.phase;
+}
+
+pub fn put_collected(board: &mut [u8], at: usize, r: Record)
+    requires { ⌜ at + 24 ≤ length (now board) ⌝ }
+    ensures { λ _. ⌜ now (board .exit) ≡ collectedOver r at (now (board .entry)) ⌝ }
+{
+    board[at + 1] = r.position;
+    board[at + 3] = r.seen;
+    board[at + 4] = r.highest;
+    put_figure(board, at + 16, r.best);
+}
+
+pub fn put_started(board: &mut [u8], at: usize, r: Record)
+    requires { ⌜ at + 24 ≤ length (now board) ⌝ }
+    ensures { λ _. ⌜ now (board .exit) ≡ startedOver r at (now (board .entry)) ⌝ }
+{
+    put_phase(board, at, r);
+    board[at + 2] = r.island;
+    board[at + 5] = r.flag;
+    put_figure(board, at + 12, r.carried);
+    put_collected(board, at, r);
 }

@@ -1,5 +1,6 @@
 -- Laws over plain variables, one subject a file.
 pub mod Touching
+pub mod Putting
 pub mod Accessing
 pub mod Stepping
 pub mod Checking

@@ -2,11 +2,14 @@
 // Relies on the codec and on the stepper of a lent record; the public step and the run rely on it.
 ghost use mathlib.Core.Path.{_≡_};
 ghost use Prim.Native.Nat.{_≤_, _<_};
-ghost use Rattle.model.specs.Layout.{recordAt};
+ghost use Rattle.model.specs.Bytes.{part};
+ghost use Rattle.model.specs.Layout.{recordAt, layRecord};
 ghost use Rattle.archipelago.specs.Advanced.{Ready};
 ghost use Rattle.stepping.specs.Stepped.{Touches, Accesses, OnSize};
 use codec::places::register_offset;
-use codec::records::put_record;
+use codec::records::put_collected;
+use codec::records::put_phase;
+use codec::records::put_started;
 use codec::registers::put_register;
 use codec::registers::register_at;
 use model::Record;
@@ -40,18 +43,24 @@ fn touched(n: u8, k: u8, j: usize, station: Record) -> usize
     register_offset(stations, 2 + 2 * island, next)
 }
 
-// An accepted step of the station with index j, whose record at `at` has been read.
+// An accepted step of the station with index j, whose record at `at` has been read. Only what the move changed is put back:
+// after a write the phase, in the middle of a collect what it has seen, and at its end, where the station is at position 0
+// again, all but the proposal. The other bytes of the record stand already.
 pub fn access(board: &mut [u8], n: u8, k: u8, j: usize, at: usize, station: Record) -> StepAnswer
-    requires { ⌜ Ready n k station × OnSize n k j (now board) × (at ≡ recordAt n k j) ⌝ }
+    requires { ⌜ Ready n k station × OnSize n k j (now board) × (at ≡ recordAt n k j) × (part at 24 (now board) ≡ layRecord station) ⌝ }
     ensures { λ r. ⌜ Accesses n k j station (now (board .entry)) r (now (board .exit)) ⌝ }
 {
     let place = touched(n, k, j, station);
     let moved = move_station(n, k, station, register_at(board, place));
     if moved.writes {
         put_register(board, place, moved.register);
-        put_record(board, at, moved.station);
+        put_phase(board, at, moved.station);
         return moved.answer;
     }
-    put_record(board, at, moved.station);
+    if moved.station.position == 0 {
+        put_started(board, at, moved.station);
+        return moved.answer;
+    }
+    put_collected(board, at, moved.station);
     moved.answer
 }

@@ -1,5 +1,5 @@
 -- An accepted step: where it reads and writes lies on the board, and what is put back is what the model's access puts.
--- Relies on Touching, on the promise of `move_station` and on the model's access; the proof of `access` relies on it.
+-- Relies on Touching, Putting, the promise of `move_station` and the model's access; the proof of `access` relies on it.
 use mathlib.Core.Path.{_≡_, refl, sym, ap, _∙_, subst}
 use mathlib.Core.Bool.{true, false}
 use mathlib.Core.List.{List}
@@ -12,19 +12,22 @@ use Rattle.model.specs.declared.Register as Fields
 use Rattle.model.specs.Bytes.{part, splice, digits}
 use Rattle.model.specs.Figure.{Figure, figures, figureBytes}
 use Rattle.model.specs.Listing.{Turn, turnM, turnA, turnB, Register, Stage, writing, reading, has-decided, is-spent, active, move, placeArray, placeColumn}
-use Rattle.model.specs.Layout.{registerAt, recordAt, readRegister, layRegister, registerValue, layRecord, recordValue, writingOf, readingOf, ofPhase, registerOf}
+use Rattle.model.specs.Layout.{registerAt, recordAt, readRegister, layRegister, registerValue, layRecord, recordFields, recordValue, writingOf, readingOf, ofPhase, registerOf}
 use Rattle.model.specs.Calls.{putStation, access}
 use Rattle.model.proofs.Board.Codec.{register}
 use Rattle.model.proofs.Basics.Tests.{clash}
-use Rattle.model.proofs.Basics.Splices.{length-splice}
-use Rattle.model.proofs.Board.Places.{InBoard, register-fits, record-inside}
+use Rattle.model.proofs.Basics.Splices.{length-splice, part-after}
+use Rattle.model.proofs.Board.Places.{InBoard, register-inside, register-fits, record-inside}
 use Rattle.model.proofs.Board.Values.{array-inside}
 use Rattle.model.proofs.Listing.Going.{Going}
 use Rattle.model.proofs.Listing.Written.{read-writes}
+use Rattle.codec.specs.Over.{phaseOver, collectedOver, startedOver}
+use Rattle.codec.proofs.Laws.Over.{phase-inside, collected-inside, started-inside}
 use Rattle.archipelago.specs.declared.Moved.{Moved}
 use Rattle.archipelago.specs.Advanced.{Ready, Written, Advanced, Moves}
 use Rattle.archipelago.proofs.Ready.{put-written, put-nothing}
 use Rattle.stepping.specs.Stepped.{Touches, Accesses, OnSize}
+use Rattle.stepping.proofs.Laws.Putting.{write-changes, read-changes, move-changes}
 
 -- the stage that a ready record stands for, and its place on the board
 pub record Standing (n K j : ℕ) (f : Record) : Type 0 where
@@ -77,8 +80,8 @@ record-fits-after n K j f b e place at r h z t q p =
 
 -- ---- what is put back
 
-module _ (n K j : ℕ) (f : Record) (b : List ℕ) (place at : ℕ) (g : Fields.Register) (m : Moved)
-    (t : Touches n j f place) (eg : g ≡ readRegister (part place 8 b)) (a : Moves n K f g m) (ea : at ≡ recordAt n K j) where
+module _ (n K j : ℕ) (f : Record) (b : List ℕ) (place at : ℕ) (g : Fields.Register) (m : Moved) (h : Ready n K f) (z : OnSize n K j b)
+    (t : Touches n j f place) (eg : g ≡ readRegister (part place 8 b)) (a : Moves n K f g m) (ea : at ≡ recordAt n K j) (w : part at 24 b ≡ layRecord f) where
   moved : (s : Stage Figure) → recordValue f ≡ active (f .proposal) s
       → Advanced (f .proposal) (move figures n K s (registerOf n (placeArray s) (placeColumn j s) b)) m
   unfolding Moves Touches registerOf
@@ -96,18 +99,56 @@ module _ (n K j : ℕ) (f : Record) (b : List ℕ) (place at : ℕ) (g : Fields.
   own-column (has-decided c x) w q = refl
   own-column (is-spent c x) w q = refl
 
-  pub accessed-writing : (e d : List ℕ) → m .writes ≡ true → e ≡ splice place (layRegister (m .register)) b → d ≡ splice at (layRecord (m .station)) e
+  -- the whole record put back, after a write and after a read
+  put-writing : (e d : List ℕ) → m .writes ≡ true → e ≡ splice place (layRegister (m .register)) b → d ≡ splice at (layRecord (m .station)) e
       → Accesses n K j f b (m .answer) d
   unfolding Accesses Touches access putStation
-  accessed-writing e d q ee ed s h =
-      let v = moved s h in
+  put-writing e d q ee ed s es =
+      let v = moved s es in
       let col = own-column s (v .written) q in
-      let put = ee ∙ ap (λ (k : ℕ). splice k (layRegister (m .register)) b) (t s h ∙ ap (registerAt n (placeArray s)) col)
+      let put = ee ∙ ap (λ (k : ℕ). splice k (layRegister (m .register)) b) (t s es ∙ ap (registerAt n (placeArray s)) col)
       ∙ sym (put-written n (placeArray s) j _ b m (v .written) q) in
       (v .answer, ed ∙ (λ i. splice (ea i) (layRecord (v .station i)) (put i)))
 
-  pub accessed-reading : (d : List ℕ) → m .writes ≡ false → d ≡ splice at (layRecord (m .station)) b → Accesses n K j f b (m .answer) d
+  put-reading : (d : List ℕ) → m .writes ≡ false → d ≡ splice at (layRecord (m .station)) b → Accesses n K j f b (m .answer) d
   unfolding Accesses Touches access putStation
-  accessed-reading d q ed s h =
-      let v = moved s h in
+  put-reading d q ed s es =
+      let v = moved s es in
       (v .answer, ed ∙ (λ i. splice (ea i) (layRecord (v .station i)) (sym (put-nothing n (placeArray s) j _ b m (v .written) q) i)))
+
+  here : Standing n K j f
+  here = standing n K j f h (z .own)
+
+  -- the record by the fields of its stage
+  laid : f ≡ recordFields (active (f .proposal) (here .stage))
+  laid = sym (h .whole) ∙ ap recordFields (here .stands)
+
+  -- a register stands before the records, so a write to it leaves the record
+  beside : (r : Fields.Register) (e : List ℕ) → e ≡ splice place (layRegister r) b → part at 24 e ≡ layRecord f
+  unfolding Touches layRegister figureBytes digits
+  beside r e q =
+      let before = register-inside n K (placeArray (here .stage)) (placeColumn j (here .stage)) j (here .inside) (here .column) in
+      let there = t (here .stage) (here .stands) in
+      ap (part at 24) q
+      ∙ part-after place (layRegister r) b (place-fits n K j f b place h z t) at 24 (omega arith) (record-fits n K j b at z ea) ∙ w
+
+  -- only the part that changed put back: over the rest, which stands there, it makes the whole record
+  pub accessed-writing : (e d : List ℕ) → m .writes ≡ true → e ≡ splice place (layRegister (m .register)) b → d ≡ phaseOver (m .station) at e
+      → Accesses n K j f b (m .answer) d
+  accessed-writing e d q ee ed =
+      put-writing e d q ee
+      (ed ∙ phase-inside (m .station) at e (layRecord f) (record-fits-after n K j f b e place at (m .register) h z t ea ee) (beside (m .register) e ee)
+      ∙ ap (λ (v : List ℕ). splice at v e) (write-changes n K (f .proposal) f _ m (here .stage) laid (moved (here .stage) (here .stands)) q))
+
+  pub accessed-ending : (d : List ℕ) → m .writes ≡ false → d ≡ startedOver (m .station) at b → Accesses n K j f b (m .answer) d
+  accessed-ending d q ed =
+      put-reading d q
+      (ed ∙ started-inside (m .station) at b (layRecord f) (record-fits n K j b at z ea) w
+      ∙ ap (λ (v : List ℕ). splice at v b) (move-changes n K (f .proposal) f _ m (here .stage) laid (moved (here .stage) (here .stands))))
+
+  pub accessed-collecting : (d : List ℕ) → m .writes ≡ false → 0 < m .station .position → d ≡ collectedOver (m .station) at b
+      → Accesses n K j f b (m .answer) d
+  accessed-collecting d q l ed =
+      put-reading d q
+      (ed ∙ collected-inside (m .station) at b (layRecord f) (record-fits n K j b at z ea) w
+      ∙ ap (λ (v : List ℕ). splice at v b) (read-changes n K (f .proposal) f _ m (here .stage) laid (moved (here .stage) (here .stands)) q l))

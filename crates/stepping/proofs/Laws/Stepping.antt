@@ -13,7 +13,7 @@ use Rattle.model.specs.declared.StepAnswer.the-variants.{Refused}
 use Rattle.model.specs.Bytes.{byte, part}
 use Rattle.model.specs.Figure.{Figure}
 use Rattle.model.specs.Listing.{Station, idle, active, has-decided, is-spent, Answer, refused}
-use Rattle.model.specs.Layout.{boardLength, recordAt, readRecord, ofPhase, recordValue, recordOf, stationOf}
+use Rattle.model.specs.Layout.{boardLength, recordAt, readRecord, layRecord, recordFields, ofPhase, recordValue, recordOf, stationOf}
 use Rattle.model.specs.Sound.{fieldsSound, recordSound}
 use Rattle.model.specs.Calls.{After, Refusal, stations, islands, boardRefusal, stationRefusal, stationAt, unlessRefused, notGoing, stepped, stepOn}
 use Rattle.model.specs.Told.{told}
@@ -22,6 +22,7 @@ use Rattle.model.proofs.Basics.Numbers.{Bytes}
 use Rattle.model.proofs.Basics.Splices.{length-part}
 use Rattle.model.proofs.Basics.Parts.{part-Bytes}
 use Rattle.model.proofs.Board.Places.{record-inside}
+use Rattle.model.proofs.Board.Canon.{bytes-station}
 use Rattle.model.proofs.Calls.Refusals.{board-of, OnBoard, station-passes, station-12-low, station-12-high}
 use Rattle.model.proofs.Calls.Accepted.{stepOn-access}
 use Rattle.archipelago.specs.Advanced.{Ready}
@@ -127,6 +128,13 @@ module _ (i : ℕ) (b : List ℕ) (low : 1 ≤ i) (high : i ≤ getD b 0 0) (f :
         subst (Ready (getD b 0 0) (getD b 1 0)) (sym e)
         (ready (getD b 0 0) (getD b 1 0) (part (recordAt (getD b 0 0) (getD b 1 0) (i - 1)) 24 b) fields (length-part _ 24 b inside) (part-Bytes _ 24 b bytes)
         (omega (arith, ap (λ (g : Record). g .phase) e)) (omega (arith, ap (λ (g : Record). g .phase) e)))
+
+    -- the bytes that stand there are those of the record: encoding after decoding is the identity on a sound one
+    pub own-bytes : (f .phase ≡ 0 → ⊥) → f .phase ≤ 6 → (at : ℕ) → at ≡ recordAt (getD b 0 0) (getD b 1 0) (i - 1) → part at 24 b ≡ layRecord f
+    own-bytes z l at q =
+        ap (λ (k : ℕ). part k 24 b) q
+        ∙ sym (bytes-station (getD b 0 0) (getD b 1 0) _ (length-part _ 24 b inside) (part-Bytes _ 24 b bytes) fields)
+        ∙ ap (λ (g : Record). layRecord (recordFields (recordValue g))) (sym e) ∙ ap layRecord (is-ready z l .whole)
 
     pub accepted : (f .phase ≡ 0 → ⊥) → f .phase ≤ 6 → (r : StepAnswer) (d : List ℕ) → Accesses (getD b 0 0) (getD b 1 0) (i - 1) f b r d → StepsOn i b r d
     unfolding Accesses StepsOn stations islands

@@ -1,7 +1,8 @@
 -- `accessing::access` meets its contract:
--- what is put back is what the listing's move left, at the places it names; each return is a law of Accessing.
+-- what is put back is what the listing's move changed, at the places it names; each return is a law of Accessing.
 use borrow.Author.Needs.{needs}
-use Rattle.stepping.proofs.Laws.Accessing.{place-fits, record-fits, record-fits-after, accessed-writing, accessed-reading}
+use native.Mathlib.Omega.{arith}
+use Rattle.stepping.proofs.Laws.Accessing.{place-fits, record-fits, record-fits-after, accessed-writing, accessed-ending, accessed-collecting}
 use Rattle.stepping.proofs.accessing.access.Statement.{statement}
 use Rattle.stepping.proofs.accessing.access.Tie as tie
 
@@ -17,23 +18,45 @@ move-station-requires c κs = search needs
 put-register-requires : tie.Need-put-register-requires
 put-register-requires c κs = place-fits _ _ _ _ _ _ (c .before .before .before .before .before .before .before .pre .0) (c .before .before .before .before .before .before .before .pre .1) (c .before .before .before .before .before .touched .ensures)
 
-put-record-requires : tie.Need-put-record-requires
-put-record-requires c κs = record-fits-after _ _ _ _ _ _ _ _ _ (c .before .before .before .before .before .before .before .before .before .before .before .pre .0) (c .before .before .before .before .before .before .before .before .before .before .before .pre .1) (c .before .before .before .before .before .before .before .before .before .touched .ensures) (c .before .before .before .before .before .before .before .before .before .before .before .pre .2) (c .before .before .before .put-register .ensures)
+put-phase-requires : tie.Need-put-phase-requires
+put-phase-requires c κs = record-fits-after _ _ _ _ _ _ _ _ _ (c .before .before .before .before .before .before .before .before .before .before .before .pre .0) (c .before .before .before .before .before .before .before .before .before .before .before .pre .1) (c .before .before .before .before .before .before .before .before .before .touched .ensures) (c .before .before .before .before .before .before .before .before .before .before .before .pre .2) (c .before .before .before .put-register .ensures)
 
 same-length : tie.Need-same-length
 same-length c = search needs
 
 returns : tie.Need-returns
-returns c = accessed-writing _ _ _ _ _ _ _ _ _ (c .before .before .before .before .before .before .before .before .before .before .before .before .touched .ensures) (c .before .before .before .before .before .before .before .before .before .before .register-at .ensures) (c .before .before .before .before .before .before .before .before .before .move-station .ensures) (c .before .before .before .before .before .before .before .before .before .before .before .before .before .before .pre .2) _ _ (c .before .before .before .before .before .before .before .before .if1 .taken) (c .before .before .before .before .before .before .put-register .ensures) (c .before .before .put-record .ensures)
+returns c =
+    let move = c .before .before .before .before .before .before .before .before .before in
+    let start = move .before .before .before .before .before in
+    accessed-writing _ _ _ _ _ _ _ _ _ (start .pre .0) (start .pre .1) (move .before .before .before .touched .ensures) (move .before .register-at .ensures)
+    (move .move-station .ensures) (start .pre .2) (start .pre .3) _ _ (c .before .before .before .before .before .before .before .before .if1 .taken) (c .before .before .before .before .before .before .put-register .ensures)
+    (c .before .before .put-phase .ensures)
 
-put-record-requires-2 : tie.Need-put-record-requires-2
-put-record-requires-2 c κs = record-fits _ _ _ _ _ (c .before .before .before .before .before .before .before .pre .1) (c .before .before .before .before .before .before .before .pre .2)
+put-started-requires : tie.Need-put-started-requires
+put-started-requires c κs = record-fits _ _ _ _ _ (c .before .before .before .before .before .before .before .before .before .pre .1) (c .before .before .before .before .before .before .before .before .before .pre .2)
 
 same-length-2 : tie.Need-same-length-2
 same-length-2 c = search needs
 
 returns-2 : tie.Need-returns-2
-returns-2 c = accessed-reading _ _ _ _ _ _ _ _ _ (c .before .before .before .before .before .before .before .before .touched .ensures) (c .before .before .before .before .before .before .register-at .ensures) (c .before .before .before .before .before .move-station .ensures) (c .before .before .before .before .before .before .before .before .before .before .pre .2) _ (c .before .before .before .before .if1 .left) (c .before .before .put-record2 .ensures)
+returns-2 c =
+    let move = c .before .before .before .before .before .before .before in
+    let start = move .before .before .before .before .before in
+    accessed-ending _ _ _ _ _ _ _ _ _ (start .pre .0) (start .pre .1) (move .before .before .before .touched .ensures) (move .before .register-at .ensures)
+    (move .move-station .ensures) (start .pre .2) (start .pre .3) _ (c .before .before .before .before .before .before .if1 .left) (c .before .before .put-started .ensures)
+
+put-collected-requires : tie.Need-put-collected-requires
+put-collected-requires c κs = record-fits _ _ _ _ _ (c .before .before .before .before .before .before .before .before .before .pre .1) (c .before .before .before .before .before .before .before .before .before .pre .2)
+
+same-length-3 : tie.Need-same-length-3
+same-length-3 c = search needs
+
+returns-3 : tie.Need-returns-3
+returns-3 c =
+    let move = c .before .before .before .before .before .before .before in
+    let start = move .before .before .before .before .before in
+    accessed-collecting _ _ _ _ _ _ _ _ _ (start .pre .0) (start .pre .1) (move .before .before .before .touched .ensures) (move .before .register-at .ensures)
+    (move .move-station .ensures) (start .pre .2) (start .pre .3) _ (c .before .before .before .before .before .before .if1 .left) (omega arith) (c .before .before .put-collected .ensures)
 
 pub access-spec : {M : Type 1} → statement M
 access-spec =
@@ -43,9 +66,12 @@ access-spec =
     register-at-requires
     move-station-requires
     put-register-requires
-    put-record-requires
+    put-phase-requires
     same-length
     returns
-    put-record-requires-2
+    put-started-requires
     same-length-2
-    returns-2)
+    returns-2
+    put-collected-requires
+    same-length-3
+    returns-3)

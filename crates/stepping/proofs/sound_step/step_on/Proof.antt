@@ -2,7 +2,7 @@
 -- 12, 14, 15 and 16 in checking order, else one access; each return is a law of Stepping.
 use native.Mathlib.Omega.{arith}
 use borrow.Author.Needs.{needs}
-use Rattle.stepping.proofs.Laws.Stepping.{head, all-bytes, twelve-low, twelve-high, own-record, record-on, fourteen, fifteen, sixteen, on-size, is-ready, accepted}
+use Rattle.stepping.proofs.Laws.Stepping.{head, all-bytes, twelve-low, twelve-high, own-record, record-on, fourteen, fifteen, sixteen, on-size, is-ready, own-bytes, accepted}
 use Rattle.stepping.proofs.sound_step.step_on.Statement.{statement}
 use Rattle.stepping.proofs.sound_step.step_on.Tie as tie
 
@@ -52,7 +52,16 @@ returns-5 : tie.Need-returns-5
 returns-5 c = sixteen _ _ (omega arith) (omega arith) _ (own-record _ _ _ _ (c .before .before .before .before .before .before .before .before .record-offset .ensures) (c .before .before .before .before .before .before .record-at .ensures)) (c .if5 .taken)
 
 access-requires : tie.Need-access-requires
-access-requires c κs = (is-ready _ _ (omega arith) (omega arith) _ (own-record _ _ _ _ (c .before .before .before .before .before .before .before .before .before .record-offset .ensures) (c .before .before .before .before .before .before .before .record-at .ensures)) (c .before .before .before .before .before .before .before .before .before .before .before .before .before .before .before .pre) (all-bytes _ (λ i. c .before .before .before .before .before .before .before .before .before .before .before .before .before .before .slice-known .given i .fits)) (omega arith) (omega arith), on-size _ _ (omega arith) (omega arith) _ (own-record _ _ _ _ (c .before .before .before .before .before .before .before .before .before .record-offset .ensures) (c .before .before .before .before .before .before .before .record-at .ensures)) (c .before .before .before .before .before .before .before .before .before .before .before .before .before .before .before .pre) (all-bytes _ (λ i. c .before .before .before .before .before .before .before .before .before .before .before .before .before .before .slice-known .given i .fits)), c .before .before .before .before .before .before .before .before .before .record-offset .ensures)
+access-requires c κs =
+    let read = c .before .before .before .before .before .before .before in
+    let start = read .before .before .before .before .before .before .before .before in
+    let own = own-record _ _ _ _ (read .before .before .record-offset .ensures) (read .record-at .ensures) in
+    let bytes = all-bytes _ (λ i. c .before .before .before .before .before .before .before .before .before .before .before .before .before .before .slice-known .given i .fits) in (
+      is-ready _ _ (omega arith) (omega arith) _ own (start .pre) bytes (omega arith) (omega arith),
+      on-size _ _ (omega arith) (omega arith) _ own (start .pre) bytes,
+      read .before .before .record-offset .ensures,
+      own-bytes _ _ (omega arith) (omega arith) _ own (start .pre) bytes (omega arith) (omega arith) _ (read .before .before .record-offset .ensures),
+    )
 
 same-length-4 : tie.Need-same-length-4
 same-length-4 c = search needs
