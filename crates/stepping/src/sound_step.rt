@@ -28,10 +28,11 @@ pub fn step_on(board: &mut [u8], station: u8) -> StepAnswer
     if own.phase == 0 {
         return StepAnswer::Refused { number: 14 };
     }
-    if own.phase == 7 {
-        return StepAnswer::Refused { number: 15 };
-    }
-    if 7 < own.phase {
+    // One test for a station that goes on, which nearly every call is for.
+    if 6 < own.phase {
+        if own.phase == 7 {
+            return StepAnswer::Refused { number: 15 };
+        }
         return StepAnswer::Refused { number: 16 };
     }
     access(board, n, k, j, at, own)

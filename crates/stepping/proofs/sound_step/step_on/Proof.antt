@@ -43,20 +43,20 @@ same-length-2 : tie.Need-same-length-2
 same-length-2 c = search needs
 
 returns-4 : tie.Need-returns-4
-returns-4 c = fifteen _ _ (omega arith) (omega arith) _ (own-record _ _ _ _ (c .before .before .before .before .before .before .record-offset .ensures) (c .before .before .before .before .record-at .ensures)) (c .if4 .taken)
+returns-4 c = fifteen _ _ (omega arith) (omega arith) _ (own-record _ _ _ _ (c .before .before .before .before .before .before .before .before .record-offset .ensures) (c .before .before .before .before .before .before .record-at .ensures)) (c .if5 .taken)
 
 same-length-3 : tie.Need-same-length-3
 same-length-3 c = search needs
 
 returns-5 : tie.Need-returns-5
-returns-5 c = sixteen _ _ (omega arith) (omega arith) _ (own-record _ _ _ _ (c .before .before .before .before .before .before .before .before .record-offset .ensures) (c .before .before .before .before .before .before .record-at .ensures)) (c .if5 .taken)
+returns-5 c = sixteen _ _ (omega arith) (omega arith) _ (own-record _ _ _ _ (c .before .before .before .before .before .before .before .before .record-offset .ensures) (c .before .before .before .before .before .before .record-at .ensures)) (omega arith)
 
 access-requires : tie.Need-access-requires
 access-requires c κs =
-    let read = c .before .before .before .before .before .before .before in
+    let read = c .before .before .before .before .before in
     let start = read .before .before .before .before .before .before .before .before in
     let own = own-record _ _ _ _ (read .before .before .record-offset .ensures) (read .record-at .ensures) in
-    let bytes = all-bytes _ (λ i. c .before .before .before .before .before .before .before .before .before .before .before .before .before .before .slice-known .given i .fits) in (
+    let bytes = all-bytes _ (λ i. c .before .before .before .before .before .before .before .before .before .before .before .before .slice-known .given i .fits) in (
       is-ready _ _ (omega arith) (omega arith) _ own (start .pre) bytes (omega arith) (omega arith),
       on-size _ _ (omega arith) (omega arith) _ own (start .pre) bytes,
       read .before .before .record-offset .ensures,
@@ -67,7 +67,7 @@ same-length-4 : tie.Need-same-length-4
 same-length-4 c = search needs
 
 returns-6 : tie.Need-returns-6
-returns-6 c = accepted _ _ (omega arith) (omega arith) _ (own-record _ _ _ _ (c .before .before .before .before .before .before .before .before .before .before .before .before .record-offset .ensures) (c .before .before .before .before .before .before .before .before .before .before .record-at .ensures)) (c .before .before .before .before .before .before .before .before .before .before .before .before .before .before .before .before .before .before .pre) (all-bytes _ (λ i. c .before .before .before .before .before .before .before .before .before .before .before .before .before .before .before .before .before .slice-known .given i .fits)) (omega arith) (omega arith) _ _ (c .before .before .access .ensures)
+returns-6 c = accepted _ _ (omega arith) (omega arith) _ (own-record _ _ _ _ (c .before .before .before .before .before .before .before .before .before .before .record-offset .ensures) (c .before .before .before .before .before .before .before .before .record-at .ensures)) (c .before .before .before .before .before .before .before .before .before .before .before .before .before .before .before .before .pre) (all-bytes _ (λ i. c .before .before .before .before .before .before .before .before .before .before .before .before .before .before .before .slice-known .given i .fits)) (omega arith) (omega arith) _ _ (c .before .before .access .ensures)
 
 pub step-on-spec : {M : Type 1} → statement M
 step-on-spec =
