@@ -1,11 +1,13 @@
--- How long decimal numbers can be.
+-- How long decimal numbers can be, and their digits written from the last on.
 -- Relies on the model's `decimal` and its digits; the proofs of numbers and the bounds on a status rely on it.
-use mathlib.Core.Path.{_≡_, refl, ap, _∙_}
+use mathlib.Core.Path.{_≡_, refl, sym, ap, _∙_}
 use mathlib.Core.Logic.{⊎-elim}
-use mathlib.Core.List.{[], _∷_}
-use Prim.Native.Nat.{ℕ, zero, suc, _+_, _/_, _%_, _≤_, _<_}
+use mathlib.Core.List.{List, [], _∷_, _++_, append-assoc}
+use Prim.Native.Nat.{ℕ, zero, suc, _+_, _-_, _/_, _%_, _≤_, _<_}
+use native.Mathlib.Numerals.{add-one}
 use native.Mathlib.Omega.{arith}
-use lib.ListN.{length, length-append}
+use lib.ListN.{length, length-append, drop, set, take, length-take, length-drop}
+use lib.Seq.{set-split, drop-at, take-all}
 use Rattle.model.specs.Show.{decimalIn, decimal}
 use Rattle.model.proofs.Basics.Decimals.{last-digit, in-one, in-more, below-ten, decimal-one, decimal-more}
 
@@ -36,3 +38,32 @@ length-in (suc k) x =
 pub length-any : (x : ℕ) → length (decimal x) ≤ 10
 unfolding decimal
 length-any x = length-in 10 x
+
+pub length-some : (x : ℕ) → x < 4294967296 → 1 ≤ length (decimal x)
+length-some x h =
+    ⊎-elim (λ (l : x < 10). omega (arith, length-one x l))
+    (λ (l : 10 ≤ x). omega (arith, length-more x l h)) (below-ten x)
+
+-- a digit is written before the digits that stand already
+module _ (bytes : List ℕ) (from : ℕ) (h : from < length bytes) where
+  drop-set : (b : ℕ) → drop from (set bytes from b) ≡ b ∷ drop (from + 1) bytes
+  drop-set b =
+      ap (drop from) (set-split bytes from b h)
+      ∙ drop-at (take from bytes) _ from (length-take from bytes ∙ omega arith)
+      ∙ ap (λ (n : ℕ). b ∷ drop n bytes) (sym (add-one from))
+
+  pub digit-first : (x : ℕ) → x < 10 → drop from (set bytes from (48 + x)) ≡ decimal x ++ drop (from + 1) bytes
+  digit-first x l = drop-set (48 + x) ∙ ap (λ (d : List ℕ). d ++ drop (from + 1) bytes) (sym (decimal-one x l))
+
+  pub digit-more : (x : ℕ) → 10 ≤ x → x < 4294967296
+      → decimal (x / 10) ++ drop from (set bytes from (48 + x % 10)) ≡ decimal x ++ drop (from + 1) bytes
+  digit-more x l g =
+      ap (λ (d : List ℕ). decimal (x / 10) ++ d) (drop-set (48 + x % 10))
+      ∙ sym (append-assoc (decimal (x / 10)) (last-digit x) (drop (from + 1) bytes))
+      ∙ ap (λ (d : List ℕ). d ++ drop (from + 1) bytes) (sym (decimal-more x l (omega arith)))
+
+-- the part of the bytes that the code hands on
+pub digits-part : (bytes : List ℕ) (from x : ℕ) → length bytes ≡ 10 → drop from bytes ≡ decimal x → take (10 - from) (drop from bytes) ≡ decimal x
+digits-part bytes from x n e =
+    let h : length (drop from bytes) ≤ 10 - from = omega (arith, length-drop from bytes) in
+    take-all _ _ h ∙ e

@@ -47,5 +47,9 @@ puts-byte line b h = record { len = refl; holds = λ l g. record { bytes = store
         ∙ ap (λ (n : ℕ). (l ++ (b ∷ [])) ++ replicate (512 - n) 0) (sym (longer l))
 
 -- one more byte of a word
-pub word-next : (word : List ℕ) (i : ℕ) → i < length word → take i word ++ (getD word i 0 ∷ []) ≡ take (i + 1) word
+word-next : (word : List ℕ) (i : ℕ) → i < length word → take i word ++ (getD word i 0 ∷ []) ≡ take (i + 1) word
 word-next word i h = sym (ap (λ (n : ℕ). take n word) (add-one i) ∙ take-suc word i 0 h)
+
+pub puts-next : {line a r : Line} (word : List ℕ) (i : ℕ) → i < length word → Puts line (take i word) a → Puts a (getD word i 0 ∷ []) r
+    → Puts line (take (i + 1) word) r
+puts-next {line} {r = r} word i h p q = subst (λ (t : List ℕ). Puts line t r) (word-next word i h) (puts-then p q)

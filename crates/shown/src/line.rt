@@ -31,6 +31,7 @@ pub fn put_byte(line: Line, byte: u8) -> Line
     next
 }
 
+// Each byte is stored in place: a call of put_byte in the loop would copy the whole line twice for each byte.
 pub fn put_word(line: Line, word: &[u8]) -> Line
     requires { ⌜ line .len + length (now word) ≤ 512 ⌝ }
     ensures { λ r. ⌜ Puts line (now (word .entry)) r ⌝ }
@@ -38,7 +39,9 @@ pub fn put_word(line: Line, word: &[u8]) -> Line
     let mut next = line;
     let mut i = 0;
     while i < word.len() {
-        next = put_byte(next, word[i]);
+        let at = next.len;
+        next.bytes[at] = word[i];
+        next.len += 1;
         i += 1;
     }
     next

@@ -2,20 +2,43 @@
 // Relies on the line; statuses and the lines of a run sheet rely on it.
 use crate::line::Line;
 use crate::line::put_byte;
+use crate::line::put_word;
+ghost use mathlib.Core.Path.{_≡_};
 ghost use Prim.Native.Nat.{_+_, _≤_};
-ghost use lib.ListN.{length};
+ghost use lib.ListN.{length, drop};
 ghost use Rattle.model.specs.Show.{decimal, signed};
 ghost use Rattle.shown.specs.Puts.{Puts};
+
+// The digits of a number: they stand at the end of the bytes, the first of them at `from`.
+struct Digits {
+    bytes: [u8; 10],
+    from: usize,
+}
+
+// From the last digit on, so that no division but by ten is needed.
+fn digits_of(x: u32) -> Digits
+    ensures { λ r. ⌜ (length (r .bytes) ≡ 10) × (r .from ≤ 9) × (drop (r .from) (r .bytes) ≡ decimal x) ⌝ }
+{
+    let mut bytes = [0u8; 10];
+    let mut from = 9;
+    let mut rest = x;
+    while 10 <= rest {
+        bytes[from] = b'0' + (rest % 10) as u8;
+        from -= 1;
+        rest = rest / 10;
+    }
+    bytes[from] = b'0' + rest as u8;
+    Digits { bytes, from }
+}
 
 pub fn put_decimal(line: Line, x: u32) -> Line
     requires { ⌜ line .len + length (decimal x) ≤ 512 ⌝ }
     ensures { λ r. ⌜ Puts line (decimal x) r ⌝ }
 {
-    if x < 10 {
-        return put_byte(line, b'0' + x as u8);
-    }
-    let front = put_decimal(line, x / 10);
-    put_byte(front, b'0' + (x % 10) as u8)
+    let digits = digits_of(x);
+    let bytes = digits.bytes;
+    let from = digits.from;
+    put_word(line, &bytes[from..])
 }
 
 pub fn put_figure(line: Line, v: i32) -> Line

@@ -8,7 +8,7 @@ use borrow.Author.Needs.{needs}
 use lib.ListN.{length, take}
 use lib.Seq.{take-all}
 use Rattle.shown.specs.Puts.{Puts}
-use Rattle.shown.proofs.Putting.{puts-nothing, puts-then, word-next}
+use Rattle.shown.proofs.Putting.{puts-nothing, puts-byte, puts-next}
 use Rattle.shown.proofs.line.put_word.Statement.{statement}
 use Rattle.shown.proofs.line.put_word.Tie as tie
 
@@ -21,11 +21,14 @@ abbrev μ-loop : tie.MeasureT-loop
 loop-holds : tie.Need-loop-holds Inv-loop μ-loop
 loop-holds c = (omega arith, omega arith, puts-nothing _)
 
-shared-slice-read-put-byte : tie.Need-shared-slice-read-put-byte Inv-loop μ-loop
-shared-slice-read-put-byte c = search needs
+shared-slice-read-next : tie.Need-shared-slice-read-next Inv-loop μ-loop
+shared-slice-read-next c = search needs
 
-put-byte-requires : tie.Need-put-byte-requires Inv-loop μ-loop
-put-byte-requires c κs = search needs
+element-write-next : tie.Need-element-write-next Inv-loop μ-loop
+element-write-next c = search needs
+
+add-next : tie.Need-add-next Inv-loop μ-loop
+add-next c = search needs
 
 add-i : tie.Need-add-i Inv-loop μ-loop
 add-i c = search needs
@@ -35,17 +38,12 @@ loop-less c = search needs
 
 loop-again : tie.Need-loop-again Inv-loop μ-loop
 loop-again c =
-    let word = c .before .before .before .before .before .args .word .now in
-    let i = c .before .before .before .loop .i in (
-      search needs,
-      omega (arith, c .put-byte .ensures .len),
-      subst (λ (l : List ℕ). Puts (c .before .before .before .before .before .args .line) l (c .put-byte .result)) (word-next word i (search needs))
-          (puts-then (c .before .before .before .loop .inv .2) (c .put-byte .ensures)),
-    )
+    let l = c .before .before .loop in
+    (search needs, search needs, puts-next _ (l .i) (search needs) (l .inv .2) (puts-byte (l .next) _ (search needs)))
 
 returns : tie.Need-returns Inv-loop μ-loop
 returns c =
-    subst (λ (l : List ℕ). Puts (c .before .before .before .args .line) l (c .before .loop .next)) (take-all _ _ (c .loop-test .left))
+    subst (λ (l : List ℕ). Puts (c .before .before .args .line) l (c .before .loop .next)) (take-all _ _ (c .loop-test .left))
     (c .before .loop .inv .2)
 
 pub put-word-spec : {M : Type 1} → statement M
@@ -55,8 +53,9 @@ put-word-spec =
     Inv-loop
     μ-loop
     loop-holds
-    shared-slice-read-put-byte
-    put-byte-requires
+    shared-slice-read-next
+    element-write-next
+    add-next
     add-i
     loop-less
     loop-again

@@ -1,0 +1,84 @@
+-- `number::digits_of` meets its contract. The loop's invariant: the number is what is left of it, followed by the digits that
+-- stand already, and what is left has no more digits than there is room for. The measure is what is left.
+use mathlib.Core.Path.{_≡_, refl, ap, _∙_}
+use mathlib.Core.List.{_++_, append-nil}
+use Prim.Native.Nat.{ℕ, _+_, _-_, _/_, _%_, _≤_}
+use native.Mathlib.Omega.{arith}
+use borrow.Author.Needs.{needs}
+use lib.ListN.{length, drop, set, length-set}
+use Rattle.model.specs.Show.{decimal}
+use Rattle.shown.proofs.Decimals.{length-any, length-more, length-some, digit-first, digit-more}
+use Rattle.shown.proofs.number.digits_of.Statement.{statement}
+use Rattle.shown.proofs.number.digits_of.Tie as tie
+
+abbrev Inv-loop : tie.InvT-loop
+Inv-loop x bytes₀ from₀ rest₀ bytes from rest =
+    (length bytes ≡ 10) × (length (decimal rest) ≤ from + 1) × (from ≤ 9) × (rest ≤ x) × (decimal rest ++ drop (from + 1) bytes ≡ decimal x)
+
+abbrev μ-loop : tie.MeasureT-loop
+μ-loop x bytes₀ from₀ rest₀ bytes from rest = rest
+
+loop-holds : tie.Need-loop-holds Inv-loop μ-loop
+loop-holds c = (refl, length-any (c .args .x), omega arith, omega arith, append-nil _)
+
+cast-bytes : tie.Need-cast-bytes Inv-loop μ-loop
+cast-bytes c = search needs
+
+add-bytes : tie.Need-add-bytes Inv-loop μ-loop
+add-bytes c = search needs
+
+array-write-bytes : tie.Need-array-write-bytes Inv-loop μ-loop
+array-write-bytes c = search needs
+
+sub-from : tie.Need-sub-from Inv-loop μ-loop
+sub-from c =
+    let rest = c .before .loop .rest in
+    omega (arith, length-more rest (c .loop-test .taken) (omega arith), length-some (rest / 10) (omega arith))
+
+loop-less : tie.Need-loop-less Inv-loop μ-loop
+loop-less c = search needs
+
+loop-again : tie.Need-loop-again Inv-loop μ-loop
+loop-again c =
+    let l = c .before .loop in
+    let bytes = set (l .bytes) (l .from) (48 + l .rest % 10) in
+    let more : length (decimal (l .rest)) ≡ length (decimal (l .rest / 10)) + 1 = length-more (l .rest) (omega arith) (omega arith) in
+    let room : l .from - 1 + 1 ≡ l .from = omega (arith, length-some (l .rest / 10) (omega arith)) in (
+      length-set (l .bytes) (l .from) _ ∙ l .inv .0,
+      omega arith,
+      omega arith,
+      omega arith,
+      ap (λ (n : ℕ). decimal (l .rest / 10) ++ drop n bytes) room ∙ digit-more (l .bytes) (l .from) (omega arith) (l .rest) (omega arith) (omega arith) ∙ l .inv .4,
+    )
+
+cast-bytes-2 : tie.Need-cast-bytes-2 Inv-loop μ-loop
+cast-bytes-2 c = search needs
+
+add-bytes-2 : tie.Need-add-bytes-2 Inv-loop μ-loop
+add-bytes-2 c = search needs
+
+array-write-bytes-2 : tie.Need-array-write-bytes-2 Inv-loop μ-loop
+array-write-bytes-2 c = search needs
+
+returns : tie.Need-returns Inv-loop μ-loop
+returns c =
+    let l = c .before .loop in
+    (length-set (l .bytes) (l .from) _ ∙ l .inv .0, l .inv .2, digit-first (l .bytes) (l .from) (omega arith) (l .rest) (omega arith) ∙ l .inv .4)
+
+pub digits-of-spec : {M : Type 1} → statement M
+digits-of-spec =
+    tie.close
+    (tie.spec
+    Inv-loop
+    μ-loop
+    loop-holds
+    cast-bytes
+    add-bytes
+    array-write-bytes
+    sub-from
+    loop-less
+    loop-again
+    cast-bytes-2
+    add-bytes-2
+    array-write-bytes-2
+    returns)
