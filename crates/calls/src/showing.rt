@@ -14,7 +14,7 @@ use model::Verdict;
 use shown::line::Line;
 use shown::status::closed;
 use shown::status::opened;
-use shown::status::put_status;
+use shown::status::write_status;
 use soundness::board::check_board;
 
 // Zeros alone beside the number.
@@ -35,14 +35,16 @@ fn stations_of(board: &[u8]) -> Line
 {
     let n = board[0] as usize;
     let k = board[1] as usize;
-    let mut line = opened();
+    let open = opened();
+    let mut bytes = open.bytes;
+    let mut len = open.len;
     let mut j = 0;
     while j < n {
         let own = record_at(board, record_offset(n, k, j));
-        line = put_status(line, (j + 1) as u8, own);
+        len = write_status(&mut bytes, len, (j + 1) as u8, own);
         j += 1;
     }
-    line
+    Line { bytes, len }
 }
 
 fn show_on(board: &[u8]) -> ShownLine

@@ -19,6 +19,9 @@ puts-then {line} {a} {r} {s} {t} p q = record {
   holds = λ l h. subst (Holds r) (append-assoc l s t) (q .holds (l ++ s) (p .holds l h));
 }
 
+pub puts-same : {line r : Line} {s t : List ℕ} → s ≡ t → Puts line s r → Puts line t r
+puts-same {line} {r} e p = subst (λ (l : List ℕ). Puts line l r) e p
+
 -- the byte goes where the zeros begin
 set-at : (l z : List ℕ) (a b : ℕ) → set (l ++ (a ∷ z)) (length l) b ≡ (l ++ (b ∷ [])) ++ z
 set-at [] z a b = refl
@@ -52,4 +55,4 @@ word-next word i h = sym (ap (λ (n : ℕ). take n word) (add-one i) ∙ take-su
 
 pub puts-next : {line a r : Line} (word : List ℕ) (i : ℕ) → i < length word → Puts line (take i word) a → Puts a (getD word i 0 ∷ []) r
     → Puts line (take (i + 1) word) r
-puts-next {line} {r = r} word i h p q = subst (λ (t : List ℕ). Puts line t r) (word-next word i h) (puts-then p q)
+puts-next word i h p q = puts-same (word-next word i h) (puts-then p q)

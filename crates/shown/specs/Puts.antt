@@ -15,3 +15,7 @@ pub record Holds (line : Line) (l : List ℕ) : Type 0 where
 pub record Puts (line : Line) (text : List ℕ) (r : Line) : Type 0 where
   pub len : r .len ≡ line .len + length text
   pub holds : (l : List ℕ) → Holds line l → Holds r (l ++ text)
+
+-- the line that lent bytes and a length make
+abbrev pub lineOf : List ℕ → ℕ → Line
+lineOf b n = record { bytes = b; len = n }

@@ -3,7 +3,7 @@
 ghost use mathlib.Core.List.{[], _∷_};
 ghost use Prim.Native.Nat.{_+_, _≤_, _<_};
 ghost use lib.ListN.{length};
-ghost use Rattle.shown.specs.Puts.{Holds, Puts};
+ghost use Rattle.shown.specs.Puts.{Holds, Puts, lineOf};
 
 // The bytes after the first `len` are zero.
 pub struct Line {
@@ -31,18 +31,35 @@ pub fn put_byte(line: Line, byte: u8) -> Line
     next
 }
 
-// Each byte is stored in place: a call of put_byte in the loop would copy the whole line twice for each byte.
+// The same in lent bytes, at a place in them, so that a text of many pieces is put without a copy of the line for each piece.
+// What is handed back is where the piece ends.
+pub fn write_byte(bytes: &mut [u8; 512], at: usize, byte: u8) -> usize
+    requires { ⌜ at < 512 ⌝ }
+    ensures { λ r. ⌜ Puts (lineOf (now (bytes .entry)) at) (byte ∷ []) (lineOf (now (bytes .exit)) r) ⌝ }
+{
+    bytes[at] = byte;
+    at + 1
+}
+
+pub fn write_word(bytes: &mut [u8; 512], at: usize, word: &[u8]) -> usize
+    requires { ⌜ at + length (now word) ≤ 512 ⌝ }
+    ensures { λ r. ⌜ Puts (lineOf (now (bytes .entry)) at) (now (word .entry)) (lineOf (now (bytes .exit)) r) ⌝ }
+{
+    let mut next = at;
+    let mut i = 0;
+    while i < word.len() {
+        bytes[next] = word[i];
+        next += 1;
+        i += 1;
+    }
+    next
+}
+
 pub fn put_word(line: Line, word: &[u8]) -> Line
     requires { ⌜ line .len + length (now word) ≤ 512 ⌝ }
     ensures { λ r. ⌜ Puts line (now (word .entry)) r ⌝ }
 {
-    let mut next = line;
-    let mut i = 0;
-    while i < word.len() {
-        let at = next.len;
-        next.bytes[at] = word[i];
-        next.len += 1;
-        i += 1;
-    }
-    next
+    let mut bytes = line.bytes;
+    let len = write_word(&mut bytes, line.len, word);
+    Line { bytes, len }
 }

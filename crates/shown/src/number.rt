@@ -1,13 +1,13 @@
 // Numbers as decimal digits: no plus, no leading zero, no −0.
 // Relies on the line; statuses and the lines of a run sheet rely on it.
 use crate::line::Line;
-use crate::line::put_byte;
-use crate::line::put_word;
+use crate::line::write_byte;
+use crate::line::write_word;
 ghost use mathlib.Core.Path.{_≡_};
 ghost use Prim.Native.Nat.{_+_, _≤_};
 ghost use lib.ListN.{length, drop};
 ghost use Rattle.model.specs.Show.{decimal, signed};
-ghost use Rattle.shown.specs.Puts.{Puts};
+ghost use Rattle.shown.specs.Puts.{Puts, lineOf};
 
 // The digits of a number: they stand at the end of the bytes, the first of them at `from`.
 struct Digits {
@@ -31,23 +31,41 @@ fn digits_of(x: u32) -> Digits
     Digits { bytes, from }
 }
 
+pub fn write_decimal(bytes: &mut [u8; 512], at: usize, x: u32) -> usize
+    requires { ⌜ at + length (decimal x) ≤ 512 ⌝ }
+    ensures { λ r. ⌜ Puts (lineOf (now (bytes .entry)) at) (decimal x) (lineOf (now (bytes .exit)) r) ⌝ }
+{
+    let digits = digits_of(x);
+    let word = digits.bytes;
+    let from = digits.from;
+    write_word(bytes, at, &word[from..])
+}
+
+pub fn write_figure(bytes: &mut [u8; 512], at: usize, v: i32) -> usize
+    requires { ⌜ at + length (signed v) ≤ 512 ⌝ }
+    ensures { λ r. ⌜ Puts (lineOf (now (bytes .entry)) at) (signed v) (lineOf (now (bytes .exit)) r) ⌝ }
+{
+    if v < 0 {
+        let minus = write_byte(bytes, at, b'-');
+        return write_decimal(bytes, minus, !v as u32 + 1);
+    }
+    write_decimal(bytes, at, v as u32)
+}
+
 pub fn put_decimal(line: Line, x: u32) -> Line
     requires { ⌜ line .len + length (decimal x) ≤ 512 ⌝ }
     ensures { λ r. ⌜ Puts line (decimal x) r ⌝ }
 {
-    let digits = digits_of(x);
-    let bytes = digits.bytes;
-    let from = digits.from;
-    put_word(line, &bytes[from..])
+    let mut bytes = line.bytes;
+    let len = write_decimal(&mut bytes, line.len, x);
+    Line { bytes, len }
 }
 
 pub fn put_figure(line: Line, v: i32) -> Line
     requires { ⌜ line .len + length (signed v) ≤ 512 ⌝ }
     ensures { λ r. ⌜ Puts line (signed v) r ⌝ }
 {
-    if v < 0 {
-        let minus = put_byte(line, b'-');
-        return put_decimal(minus, !v as u32 + 1);
-    }
-    put_decimal(line, v as u32)
+    let mut bytes = line.bytes;
+    let len = write_figure(&mut bytes, line.len, v);
+    Line { bytes, len }
 }

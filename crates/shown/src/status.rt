@@ -4,14 +4,16 @@ use crate::line::Line;
 use crate::line::empty;
 use crate::line::put_byte;
 use crate::line::put_word;
-use crate::number::put_decimal;
-use crate::number::put_figure;
+use crate::line::write_byte;
+use crate::line::write_word;
+use crate::number::write_decimal;
+use crate::number::write_figure;
 use model::Record;
 ghost use Prim.Native.Nat.{_+_, _≤_, _<_};
 ghost use lib.ListN.{length};
 ghost use Rattle.model.specs.Layout.{recordValue};
 ghost use Rattle.model.specs.Show.{status, text};
-ghost use Rattle.shown.specs.Puts.{Holds, Puts};
+ghost use Rattle.shown.specs.Puts.{Holds, Puts, lineOf};
 ghost use Rattle.shown.specs.Texts.{statusOf, standingBytes};
 
 pub fn opened() -> Line
@@ -28,40 +30,40 @@ pub fn closed(line: Line) -> Line
 }
 
 // One station's part of the line; `i` is its number, from 1.
-pub fn put_status(line: Line, i: u8, station: Record) -> Line
-    requires { ⌜ line .len + length (statusOf i (recordValue station)) ≤ 512 ⌝ }
-    ensures { λ r. ⌜ Puts line (statusOf i (recordValue station)) r ⌝ }
+pub fn write_status(bytes: &mut [u8; 512], at: usize, i: u8, station: Record) -> usize
+    requires { ⌜ at + length (statusOf i (recordValue station)) ≤ 512 ⌝ }
+    ensures { λ r. ⌜ Puts (lineOf (now (bytes .entry)) at) (statusOf i (recordValue station)) (lineOf (now (bytes .exit)) r) ⌝ }
 {
-    let open = put_word(line, b" (");
-    let numbered = put_decimal(open, i as u32);
-    let spaced = put_byte(numbered, b' ');
-    let stands = put_phase(spaced, station);
-    closed(stands)
+    let open = write_word(bytes, at, b" (");
+    let numbered = write_decimal(bytes, open, i as u32);
+    let spaced = write_byte(bytes, numbered, b' ');
+    let stands = write_phase(bytes, spaced, station);
+    write_byte(bytes, stands, b')')
 }
 
-fn put_phase(line: Line, station: Record) -> Line
-    requires { ⌜ line .len + length (status (recordValue station)) ≤ 512 ⌝ }
-    ensures { λ r. ⌜ Puts line (status (recordValue station)) r ⌝ }
+fn write_phase(bytes: &mut [u8; 512], at: usize, station: Record) -> usize
+    requires { ⌜ at + length (status (recordValue station)) ≤ 512 ⌝ }
+    ensures { λ r. ⌜ Puts (lineOf (now (bytes .entry)) at) (status (recordValue station)) (lineOf (now (bytes .exit)) r) ⌝ }
 {
     if station.phase == 0 {
-        return put_word(line, b"idle");
+        return write_word(bytes, at, b"idle");
     }
     if station.phase < 7 {
-        return put_standing(line, b"going", station.island, station.carried);
+        return write_standing(bytes, at, b"going", station.island, station.carried);
     }
     if station.phase == 7 {
-        return put_standing(line, b"decided", station.island, station.carried);
+        return write_standing(bytes, at, b"decided", station.island, station.carried);
     }
-    put_standing(line, b"spent", station.island, station.carried)
+    write_standing(bytes, at, b"spent", station.island, station.carried)
 }
 
-fn put_standing(line: Line, word: &[u8], island: u8, figure: i32) -> Line
-    requires { ⌜ line .len + length (standingBytes (now word) island figure) ≤ 512 ⌝ }
-    ensures { λ r. ⌜ Puts line (standingBytes (now (word .entry)) island figure) r ⌝ }
+fn write_standing(bytes: &mut [u8; 512], at: usize, word: &[u8], island: u8, figure: i32) -> usize
+    requires { ⌜ at + length (standingBytes (now word) island figure) ≤ 512 ⌝ }
+    ensures { λ r. ⌜ Puts (lineOf (now (bytes .entry)) at) (standingBytes (now (word .entry)) island figure) (lineOf (now (bytes .exit)) r) ⌝ }
 {
-    let named = put_word(line, word);
-    let spaced = put_byte(named, b' ');
-    let placed = put_decimal(spaced, island as u32);
-    let second = put_byte(placed, b' ');
-    put_figure(second, figure)
+    let named = write_word(bytes, at, word);
+    let spaced = write_byte(bytes, named, b' ');
+    let placed = write_decimal(bytes, spaced, island as u32);
+    let second = write_byte(bytes, placed, b' ');
+    write_figure(bytes, second, figure)
 }

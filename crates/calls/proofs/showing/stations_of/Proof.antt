@@ -2,7 +2,7 @@
 use mathlib.Core.Path.{refl}
 use Prim.Native.Nat.{_≤_, _-_}
 use native.Mathlib.Omega.{arith}
-use Rattle.shown.specs.Puts.{Holds}
+use Rattle.shown.specs.Puts.{Holds, lineOf}
 use Rattle.calls.specs.Showing.{openTo}
 use Rattle.stepping.proofs.Laws.Stepping.{head}
 use Rattle.calls.proofs.Laws.Showing.{fits-one, one-more, begins, all-open, value-at, record-inside-at}
@@ -10,10 +10,10 @@ use Rattle.calls.proofs.showing.stations_of.Statement.{statement}
 use Rattle.calls.proofs.showing.stations_of.Tie as tie
 
 abbrev Inv-loop : tie.InvT-loop
-Inv-loop board n k line₀ j₀ line j = (j ≤ n) × Holds line (openTo j board)
+Inv-loop board n k bytes₀ len₀ j₀ bytes len j = (j ≤ n) × Holds (lineOf bytes len) (openTo j board)
 
 abbrev μ-loop : tie.MeasureT-loop
-μ-loop board n k line₀ j₀ line j = n - j
+μ-loop board n k bytes₀ len₀ j₀ bytes len j = n - j
 
 shared-slice-read-n : tie.Need-shared-slice-read-n Inv-loop μ-loop
 shared-slice-read-n c = omega (arith, head _ (c .before .before .pre))
@@ -31,34 +31,38 @@ opened-requires : tie.Need-opened-requires Inv-loop μ-loop
 opened-requires c κs = tt
 
 loop-holds : tie.Need-loop-holds Inv-loop μ-loop
-loop-holds c = (omega arith, begins _ (c .before .before .before .before .pre) _ (c .opened .ensures))
+loop-holds c = (omega arith, begins _ (c .before .before .before .before .before .pre) _ (c .before .opened .ensures))
 
 record-offset-requires : tie.Need-record-offset-requires Inv-loop μ-loop
-record-offset-requires c κs = omega (arith, head _ (c .before .before .before .before .before .before .pre))
+record-offset-requires c κs = omega (arith, head _ (c .before .before .before .before .before .before .before .pre))
 
 record-at-requires : tie.Need-record-at-requires Inv-loop μ-loop
-record-at-requires c κs = record-inside-at _ _ _ (c .before .before .before .before .before .before .before .pre) (omega arith) (c .record-offset .ensures)
+record-at-requires c κs = record-inside-at _ _ _ (c .before .before .before .before .before .before .before .before .pre) (omega arith) (c .record-offset .ensures)
 
-add-put-status : tie.Need-add-put-status Inv-loop μ-loop
-add-put-status c = record { fits = omega (arith, head _ (c .before .before .before .before .before .before .before .before .pre)) }
+add-write-status : tie.Need-add-write-status Inv-loop μ-loop
+add-write-status c = record { fits = omega (arith, head _ (c .before .before .before .before .before .before .before .before .before .before .pre)) }
 
-cast-put-status : tie.Need-cast-put-status Inv-loop μ-loop
-cast-put-status c = record { fits = omega (arith, head _ (c .before .before .before .before .before .before .before .before .pre)) }
+cast-write-status : tie.Need-cast-write-status Inv-loop μ-loop
+cast-write-status c = record { fits = omega (arith, head _ (c .before .before .before .before .before .before .before .before .before .before .pre)) }
 
-put-status-requires : tie.Need-put-status-requires Inv-loop μ-loop
-put-status-requires c κs = fits-one _ (c .before .before .before .before .before .before .before .before .pre) _ _ _ _ (c .before .before .before .loop .inv .1) (omega arith) refl (value-at _ _ _ _ (c .before .record-offset .ensures) (c .record-at .ensures))
+write-status-requires : tie.Need-write-status-requires Inv-loop μ-loop
+write-status-requires c κs =
+    fits-one _ (c .before .before .before .before .before .before .before .before .before .before .pre) (lineOf _ _) _ _ _ (c .before .before .before .before .loop .inv .1) (omega arith) refl (value-at _ _ _ _ (c .before .before .record-offset .ensures) (c .before .record-at .ensures))
 
 add-j : tie.Need-add-j Inv-loop μ-loop
-add-j c = record { fits = omega (arith, head _ (c .before .before .before .before .before .before .before .before .before .pre)) }
+add-j c = record { fits = omega (arith, head _ (c .before .before .before .before .before .before .before .before .before .before .before .pre)) }
 
 loop-less : tie.Need-loop-less Inv-loop μ-loop
 loop-less c = omega arith
 
 loop-again : tie.Need-loop-again Inv-loop μ-loop
-loop-again c = (omega arith, one-more _ (c .before .before .before .before .before .before .before .before .before .pre) _ _ _ _ _ (c .before .before .before .before .loop .inv .1) refl (value-at _ _ _ _ (c .before .before .record-offset .ensures) (c .before .record-at .ensures)) (c .put-status .ensures))
+loop-again c = (
+  omega arith,
+  one-more _ (c .before .before .before .before .before .before .before .before .before .before .before .pre) (lineOf _ _) (lineOf _ _) _ _ _ (c .before .before .before .before .before .loop .inv .1) refl (value-at _ _ _ _ (c .before .before .before .record-offset .ensures) (c .before .before .record-at .ensures)) (c .write-status .ensures),
+)
 
 returns : tie.Need-returns Inv-loop μ-loop
-returns c = all-open _ (c .before .before .before .before .before .before .pre) _ _ (c .before .loop .inv .1) (omega arith) (omega arith)
+returns c = all-open _ (c .before .before .before .before .before .before .before .pre) (lineOf _ _) _ (c .before .loop .inv .1) (omega arith) (omega arith)
 
 pub stations-of-spec : {M : Type 1} → statement M
 stations-of-spec =
@@ -74,9 +78,9 @@ stations-of-spec =
     loop-holds
     record-offset-requires
     record-at-requires
-    add-put-status
-    cast-put-status
-    put-status-requires
+    add-write-status
+    cast-write-status
+    write-status-requires
     add-j
     loop-less
     loop-again
