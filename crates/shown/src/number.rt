@@ -1,6 +1,5 @@
 // Numbers as decimal digits: no plus, no leading zero, no −0.
 // Relies on the line; statuses and the lines of a run sheet rely on it.
-use crate::line::Line;
 use crate::line::write_byte;
 use crate::line::write_word;
 ghost use mathlib.Core.Path.{_≡_};
@@ -50,22 +49,4 @@ pub fn write_figure(bytes: &mut [u8; 512], at: usize, v: i32) -> usize
         return write_decimal(bytes, minus, !v as u32 + 1);
     }
     write_decimal(bytes, at, v as u32)
-}
-
-pub fn put_decimal(line: Line, x: u32) -> Line
-    requires { ⌜ line .len + length (decimal x) ≤ 512 ⌝ }
-    ensures { λ r. ⌜ Puts line (decimal x) r ⌝ }
-{
-    let mut bytes = line.bytes;
-    let len = write_decimal(&mut bytes, line.len, x);
-    Line { bytes, len }
-}
-
-pub fn put_figure(line: Line, v: i32) -> Line
-    requires { ⌜ line .len + length (signed v) ≤ 512 ⌝ }
-    ensures { λ r. ⌜ Puts line (signed v) r ⌝ }
-{
-    let mut bytes = line.bytes;
-    let len = write_figure(&mut bytes, line.len, v);
-    Line { bytes, len }
 }

@@ -16,14 +16,14 @@ slice-aggregate-put-word c = refl
 put-word-requires : tie.Need-put-word-requires
 put-word-requires c κs = omega (arith, c .before .empty .ensures .len)
 
-put-two-requires : tie.Need-put-two-requires
-put-two-requires c κs = omega (arith, c .before .before .empty .ensures .len, c .put-word .ensures .len)
+write-two-requires : tie.Need-write-two-requires
+write-two-requires c κs = omega (arith, c .before .before .before .before .empty .ensures .len, c .before .before .put-word .ensures .len)
 
 returns : tie.Need-returns
 unfolding text textFrom
-returns c = holds-laid (c .before .before .before .empty .ensures) _ _ (c .before .put-word .ensures) (c .put-two .ensures)
+returns c = holds-laid (c .before .before .before .before .before .empty .ensures) _ _ (c .before .before .before .put-word .ensures) (c .write-two .ensures)
 
 pub laid-line-spec : {M : Type 1} → statement M
 laid-line-spec =
     tie.close
-    (tie.spec empty-requires slice-aggregate-put-word put-word-requires put-two-requires returns)
+    (tie.spec empty-requires slice-aggregate-put-word put-word-requires write-two-requires returns)

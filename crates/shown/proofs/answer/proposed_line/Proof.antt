@@ -17,40 +17,44 @@ slice-aggregate-put-word c = refl
 put-word-requires : tie.Need-put-word-requires
 put-word-requires c κs = omega (arith, c .before .empty .ensures .len)
 
-put-decimal-requires : tie.Need-put-decimal-requires
-put-decimal-requires c κs = fits-decimal _ _ (omega (arith, c .before .before .empty .ensures .len, c .put-word .ensures .len))
+write-decimal-requires : tie.Need-write-decimal-requires
+write-decimal-requires c κs = fits-decimal _ _ (omega (arith, c .before .before .before .before .empty .ensures .len, c .before .before .put-word .ensures .len))
 
-put-byte-requires : tie.Need-put-byte-requires
-put-byte-requires c κs =
-    omega (arith, c .before .before .before .empty .ensures .len, c .before .put-word .ensures .len, after-decimal _ (c .put-decimal .ensures))
-
-put-figure-requires : tie.Need-put-figure-requires
-put-figure-requires c κs =
-    fits-figure _ _ (omega (
-      arith,
-      c .before .before .before .before .empty .ensures .len,
-      c .before .before .put-word .ensures .len,
-      after-decimal _ (c .before .put-decimal .ensures),
-      c .put-byte .ensures .len,
-    ))
-
-put-byte-requires-2 : tie.Need-put-byte-requires-2
-put-byte-requires-2 c κs =
+write-byte-requires : tie.Need-write-byte-requires
+write-byte-requires c κs =
     omega (
       arith,
-      c .before .before .before .before .before .empty .ensures .len,
-      c .before .before .before .put-word .ensures .len,
-      after-decimal _ (c .before .before .put-decimal .ensures),
-      c .before .put-byte .ensures .len,
-      after-figure _ (c .put-figure .ensures),
+      c .before .before .before .before .before .before .empty .ensures .len,
+      c .before .before .before .before .put-word .ensures .len,
+      after-decimal _ (c .before .write-decimal .ensures),
+    )
+
+write-figure-requires : tie.Need-write-figure-requires
+write-figure-requires c κs =
+    fits-figure _ _ (omega (
+      arith,
+      c .before .before .before .before .before .before .before .before .empty .ensures .len,
+      c .before .before .before .before .before .before .put-word .ensures .len,
+      after-decimal _ (c .before .before .before .write-decimal .ensures),
+      c .before .write-byte .ensures .len,
+    ))
+
+write-byte-requires-2 : tie.Need-write-byte-requires-2
+write-byte-requires-2 c κs =
+    omega (
+      arith,
+      c .before .before .before .before .before .before .before .before .before .before .empty .ensures .len,
+      c .before .before .before .before .before .before .before .before .put-word .ensures .len,
+      after-decimal _ (c .before .before .before .before .before .write-decimal .ensures),
+      c .before .before .before .write-byte .ensures .len,
+      after-figure _ (c .before .write-figure .ensures),
     )
 
 returns : tie.Need-returns
 unfolding text textFrom
 returns c =
-    holds-proposed (c .before .before .before .before .before .before .empty .ensures) _ _ _ (c .before .before .before .before .put-word .ensures) (c .before .before .before .put-decimal .ensures)
-    (c .before .before .put-byte .ensures) (c .before .put-figure .ensures) (c .put-byte2 .ensures)
-    (toZ-ofZ (c .before .before .before .before .before .before .before .fits .figure))
+    holds-proposed (c .before .before .before .before .before .before .before .before .before .before .before .empty .ensures) _ _ _ (c .before .before .before .before .before .before .before .before .before .put-word .ensures) (c .before .before .before .before .before .before .write-decimal .ensures) (c .before .before .before .before .write-byte .ensures) (c .before .before .write-figure .ensures) (c .write-byte2 .ensures)
+    (toZ-ofZ (c .before .before .before .before .before .before .before .before .before .before .before .before .fits .figure))
 
 pub proposed-line-spec : {M : Type 1} → statement M
 proposed-line-spec =
@@ -59,8 +63,8 @@ proposed-line-spec =
     empty-requires
     slice-aggregate-put-word
     put-word-requires
-    put-decimal-requires
-    put-byte-requires
-    put-figure-requires
-    put-byte-requires-2
+    write-decimal-requires
+    write-byte-requires
+    write-figure-requires
+    write-byte-requires-2
     returns)

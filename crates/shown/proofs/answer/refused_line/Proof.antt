@@ -16,18 +16,21 @@ slice-aggregate-put-word c = refl
 put-word-requires : tie.Need-put-word-requires
 put-word-requires c κs = omega (arith, c .before .empty .ensures .len)
 
-put-decimal-requires : tie.Need-put-decimal-requires
-put-decimal-requires c κs = fits-decimal _ _ (omega (arith, c .before .before .empty .ensures .len, c .put-word .ensures .len))
+write-decimal-requires : tie.Need-write-decimal-requires
+write-decimal-requires c κs = fits-decimal _ _ (omega (arith, c .before .before .before .before .empty .ensures .len, c .before .before .put-word .ensures .len))
 
-put-byte-requires : tie.Need-put-byte-requires
-put-byte-requires c κs =
-    omega (arith, c .before .before .before .empty .ensures .len, c .before .put-word .ensures .len, after-decimal _ (c .put-decimal .ensures))
+write-byte-requires : tie.Need-write-byte-requires
+write-byte-requires c κs =
+    omega (
+      arith,
+      c .before .before .before .before .before .before .empty .ensures .len,
+      c .before .before .before .before .put-word .ensures .len,
+      after-decimal _ (c .before .write-decimal .ensures),
+    )
 
 returns : tie.Need-returns
 unfolding text textFrom
-returns c =
-    holds-refused (c .before .before .before .before .empty .ensures) _ (c .before .before .put-word .ensures) (c .before .put-decimal .ensures)
-    (c .put-byte .ensures)
+returns c = holds-refused (c .before .before .before .before .before .before .before .empty .ensures) _ (c .before .before .before .before .before .put-word .ensures) (c .before .before .write-decimal .ensures) (c .write-byte .ensures)
 
 pub refused-line-spec : {M : Type 1} → statement M
 refused-line-spec =
@@ -36,6 +39,6 @@ refused-line-spec =
     empty-requires
     slice-aggregate-put-word
     put-word-requires
-    put-decimal-requires
-    put-byte-requires
+    write-decimal-requires
+    write-byte-requires
     returns)

@@ -33,7 +33,7 @@ array-write-bytes c = search needs
 sub-from : tie.Need-sub-from Inv-loop μ-loop
 sub-from c =
     let rest = c .before .loop .rest in
-    omega (arith, length-more rest (c .loop-test .taken) (omega arith), length-some (rest / 10) (omega arith))
+    omega (arith, length-more rest (omega arith) (omega arith), length-some (rest / 10) (omega arith))
 
 loop-less : tie.Need-loop-less Inv-loop μ-loop
 loop-less c = search needs
