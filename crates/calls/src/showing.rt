@@ -12,7 +12,7 @@ use codec::records::record_at;
 use model::ShownLine;
 use model::Verdict;
 use shown::line::Line;
-use shown::status::closed;
+use shown::line::write_byte;
 use shown::status::opened;
 use shown::status::write_status;
 use soundness::board::check_board;
@@ -51,12 +51,13 @@ fn show_on(board: &[u8]) -> ShownLine
     requires { ⌜ boardRefusal (now board) none ≡ none ⌝ }
     ensures { λ r. ⌜ shownTold r ≡ shownAs none (shownLine (now (board .entry))) ⌝ }
 {
-    let line = closed(stations_of(board));
-    let bytes = line.bytes;
+    let line = stations_of(board);
+    let mut bytes = line.bytes;
+    let len = write_byte(&mut bytes, line.len, b')');
     ShownLine {
         verdict: Verdict::Accepted,
         bytes,
-        len: line.len,
+        len,
     }
 }
 

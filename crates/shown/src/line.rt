@@ -20,19 +20,8 @@ pub fn empty() -> Line
     }
 }
 
-pub fn put_byte(line: Line, byte: u8) -> Line
-    requires { ⌜ line .len < 512 ⌝ }
-    ensures { λ r. ⌜ Puts line (byte ∷ []) r ⌝ }
-{
-    let mut next = line;
-    let at = next.len;
-    next.bytes[at] = byte;
-    next.len = at + 1;
-    next
-}
-
-// The same in lent bytes, at a place in them, so that a text of many pieces is put without a copy of the line for each piece.
-// What is handed back is where the piece ends.
+// A piece is written at a place of the lent bytes of a line, so that a text of many pieces copies no line; what is handed back
+// is where the piece ends.
 pub fn write_byte(bytes: &mut [u8; 512], at: usize, byte: u8) -> usize
     requires { ⌜ at < 512 ⌝ }
     ensures { λ r. ⌜ Puts (lineOf (now (bytes .entry)) at) (byte ∷ []) (lineOf (now (bytes .exit)) r) ⌝ }
@@ -53,6 +42,16 @@ pub fn write_word(bytes: &mut [u8; 512], at: usize, word: &[u8]) -> usize
         i += 1;
     }
     next
+}
+
+// The same on a line by value.
+pub fn put_byte(line: Line, byte: u8) -> Line
+    requires { ⌜ line .len < 512 ⌝ }
+    ensures { λ r. ⌜ Puts line (byte ∷ []) r ⌝ }
+{
+    let mut bytes = line.bytes;
+    let len = write_byte(&mut bytes, line.len, byte);
+    Line { bytes, len }
 }
 
 pub fn put_word(line: Line, word: &[u8]) -> Line

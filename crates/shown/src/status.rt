@@ -1,15 +1,15 @@
-// The texts of the line that `show` hands back: its frame, and a station's status with its number, word, island and figure.
+// The texts of the line that `show` hands back: its opening word, and a station's status with its number, word, island and
+// figure.
 // Relies on the line and on numbers; the call that shows a board relies on it.
 use crate::line::Line;
 use crate::line::empty;
-use crate::line::put_byte;
 use crate::line::put_word;
 use crate::line::write_byte;
 use crate::line::write_word;
 use crate::number::write_decimal;
 use crate::number::write_figure;
 use model::Record;
-ghost use Prim.Native.Nat.{_+_, _≤_, _<_};
+ghost use Prim.Native.Nat.{_+_, _≤_};
 ghost use lib.ListN.{length};
 ghost use Rattle.model.specs.Layout.{recordValue};
 ghost use Rattle.model.specs.Show.{status, text};
@@ -20,13 +20,6 @@ pub fn opened() -> Line
     ensures { λ r. ⌜ Holds r (text "(stations") ⌝ }
 {
     put_word(empty(), b"(stations")
-}
-
-pub fn closed(line: Line) -> Line
-    requires { ⌜ line .len < 512 ⌝ }
-    ensures { λ r. ⌜ Puts line (text ")") r ⌝ }
-{
-    put_byte(line, b')')
 }
 
 // One station's part of the line; `i` is its number, from 1.
