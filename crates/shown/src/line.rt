@@ -1,4 +1,4 @@
-// A line of at most 512 bytes, by value, and what is put at its end.
+// A line of at most 512 bytes, by value or as lent bytes, and what is put at its end.
 // Relies on nothing; numbers, statuses and the lines of a run sheet rely on it.
 ghost use mathlib.Core.List.{[], _∷_};
 ghost use Prim.Native.Nat.{_+_, _≤_, _<_};
