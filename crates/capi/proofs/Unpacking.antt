@@ -1,10 +1,10 @@
 -- What is packed can be read back: each part stands in its own bits, so no two answers are one number, and no line that is
 -- handed back answers with the number for a buffer that is too short.
 -- Relies on the packing's definitions; nothing relies on it but the reader of an answer.
-use mathlib.Core.Path.{_≡_, refl, ap}
+use mathlib.Core.Path.{_≡_, ap}
 use mathlib.Core.Bool.{Bool, true, false, _&&_}
 use mathlib.Core.List.{List}
-use mathlib.Core.Option.{none, some}
+use mathlib.Core.Option.{none}
 use Prim.Native.Nat.{ℕ, suc, _/_, _%_, _≤_, _<_}
 use native.Mathlib.Omega.{arith}
 use lib.Dec.{eqb, leb}
@@ -12,10 +12,11 @@ use lib.ListN.{length}
 use Rattle.model.specs.Layout.{boardLength}
 use Rattle.model.specs.Sound.{sound}
 use Rattle.model.specs.Calls.{Refusal, unless, stations, islands, shapeRefusal, boardRefusal, ran}
-use Rattle.model.specs.Show.{shownLine, shownAs, show}
+use Rattle.model.specs.Show.{shownLine, show}
 use Rattle.model.specs.Sheet.{playLine}
 use Rattle.player.specs.declared.line.Played.{Played}
 use Rattle.player.specs.Played.{Plays}
+use Rattle.player.proofs.Laws.Playing.{refusal-of}
 use Rattle.packing.specs.Packing.{packed, packVerdict, packRun, packWord}
 use Rattle.capi.specs.Lines.{packShow, packPlayed}
 use Rattle.capi.proofs.Laws.Lines.{shown-fits, line-laid}
@@ -68,17 +69,12 @@ board-listed b later h =
     (listed (eqb (length b) (boardLength (stations b) (islands b))) 10 _ (omega arith)
     (listed (sound (stations b) (islands b) b) 11 later (omega arith) h))))
 
-its-refusal : (r : Refusal) (l : List ℕ) → shownAs r l .refusal ≡ r
-unfolding shownAs
-its-refusal none l = refl
-its-refusal (some k) l = refl
-
 shown-listed : (b : List ℕ) → packVerdict (show b .refusal) ≤ 17
 unfolding show packVerdict
 shown-listed b =
     omega (
       arith,
-      ap packVerdict (its-refusal (boardRefusal b (unless (leb (length (shownLine b)) 512) 17 none)) (shownLine b)),
+      ap packVerdict (refusal-of (boardRefusal b (unless (leb (length (shownLine b)) 512) 17 none)) (shownLine b)),
       board-listed b (unless (leb (length (shownLine b)) 512) 17 none) (listed (leb (length (shownLine b)) 512) 17 none (omega arith) (omega arith)),
     )
 

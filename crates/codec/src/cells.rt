@@ -1,4 +1,4 @@
-// Eight bytes put at a place of a board: what registers and records are written by.
+// Eight bytes put at a place of a board: what registers and whole records are written by.
 // Relies on nothing of this crate; registers and records rely on it.
 ghost use mathlib.Core.Path.{_≡_};
 ghost use Prim.Native.Nat.{_+_, _≤_};

@@ -5,7 +5,7 @@ use mathlib.Core.List.{List}
 use mathlib.Core.Option.{Option, none, some}
 use Prim.Native.Nat.{ℕ, min, _≤_, _<_}
 use lib.ListN.{length, drop}
-use Rattle.model.specs.Forms.{Items, Read, found, expandItem, expand, timesIn, itemIn, itemsIn}
+use Rattle.model.specs.Forms.{Read, found, expandItem, expand, timesIn, itemIn, itemsIn}
 use Rattle.lexer.specs.declared.number.FoundNumber.{FoundNumber}
 use Rattle.lexer.specs.Placed.{numberAt, NumberInside}
 use Rattle.sheet.specs.declared.item.Counted.{Counted}

@@ -1,5 +1,5 @@
 -- A figure by its sign, as the code sees it: a figure that is not negative is its own number, and the complement of a
--- negative one is its distance from −1. Relies on the model's `signed`; the proof of put_figure relies on it.
+-- negative one is its distance from −1. Relies on the model's `signed`; the proof of write_figure relies on it.
 use mathlib.Core.Path.{_≡_, refl, sym, ap, _∙_, subst}
 use mathlib.Core.Bool.{true, false}
 use mathlib.Core.List.{_++_}

@@ -45,6 +45,13 @@ T-false false t = refl
 pub clash : {X : Type 0} → true ≡ false → X
 clash e = absurd (let z : _≡_ {A = ℕ} 0 1 = cc in omega arith)
 
+-- two tests that hold together are equal
+pub both : (a b : Bool) → (T a → T b) → (T b → T a) → a ≡ b
+both true true f g = refl
+both true false f g = absurd (f tt)
+both false true f g = absurd (g tt)
+both false false f g = refl
+
 -- a Bool is decided
 pub decided-test : (a : Bool) → T a ⊎ T (not a)
 decided-test true = inl tt

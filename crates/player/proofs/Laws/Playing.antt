@@ -219,7 +219,7 @@ module _ (line : List ℕ) (laid : ℕ) (m : List ℕ) where
 
 -- ---- showing
 
-refusal-of : (r : Refusal) (l : List ℕ) → shownAs r l .refusal ≡ r
+pub refusal-of : (r : Refusal) (l : List ℕ) → shownAs r l .refusal ≡ r
 unfolding shownAs
 refusal-of none l = refl
 refusal-of (some k) l = refl

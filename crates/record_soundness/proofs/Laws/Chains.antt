@@ -4,7 +4,6 @@ use mathlib.Core.Path.{_≡_, refl, sym, ap}
 use mathlib.Core.Bool.{Bool, true, false, not, _&&_, _||_, cond}
 use Prim.Native.Nat.{ℕ}
 use native.Mathlib.Omega.{arith}
-use lib.Dec.{T}
 use Rattle.model.specs.Bytes.{implies}
 
 -- what a call answered and the code then negated
@@ -19,13 +18,6 @@ yes false x e h = absurd (let z : _≡_ {A = ℕ} 0 1 = cc in omega arith)
 pub and-true : (a : Bool) → a ≡ a && true
 and-true true = refl
 and-true false = refl
-
--- two tests that hold together
-pub both : (a b : Bool) → (T a → T b) → (T b → T a) → a ≡ b
-both true true f g = refl
-both true false f g = absurd (f tt)
-both false true f g = absurd (g tt)
-both false false f g = refl
 
 -- A chain of five tests, up to the first that fails; a shorter chain begins with `true`.
 module _ (a b c d e : Bool) where

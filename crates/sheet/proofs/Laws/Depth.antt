@@ -10,6 +10,7 @@ use borrow.Author.Tests.{eq-eqb, ne-eqb, lt-ltb, le-ltb}
 use lib.Dec.{eqb, ltb}
 use lib.ListN.{length, drop, getD, length-drop, drop-of-length-le}
 use lib.Seq.{drop-cons}
+use Rattle.model.proofs.Basics.Tests.{and-false}
 use Rattle.model.specs.Forms.{same, one, tooDeep, closing, showWord, formAfter, orFour}
 use Rattle.model.specs.Show.{text, textFrom}
 use Rattle.sheet.specs.declared.form.LineForm.the-variants.{Show, Refused}
@@ -75,10 +76,6 @@ unfolding tooDeep
 all-passed line o c i p h = sym (ap (λ (l : List ℕ). tooDeep o c l) (drop-of-length-le line h)) ∙ p .rest
 
 -- ---- the closing bracket
-
-and-false : (t : Bool) → t && false ≡ false
-and-false true = refl
-and-false false = refl
 
 and-true : (t : Bool) → t && true ≡ t
 and-true true = refl

@@ -14,12 +14,12 @@ use Rattle.model.specs.Bytes.{byte, number, part, zeros, every}
 use Rattle.model.specs.Listing.{Array, inM, inA, inB}
 use Rattle.model.specs.Layout.{boardLength, rowOf, registerAt}
 use Rattle.model.specs.Sound.{registerSound, headSound, arraySound}
-use Rattle.model.proofs.Basics.Tests.{and-l, and-r, and-i, true-T}
+use Rattle.model.proofs.Basics.Tests.{and-l, and-r, and-i, true-T, both}
 use Rattle.model.proofs.Basics.Parts.{zero-at}
 use Rattle.model.proofs.Board.Places.{InBoard, register-fits}
 use Rattle.figures.proofs.Laws.Signs.{word-read}
 use Rattle.codec.proofs.Laws.Reads.{part-part, first-byte, byte-at}
-use Rattle.record_soundness.proofs.Laws.Chains.{both, cond-yes, cond-no}
+use Rattle.record_soundness.proofs.Laws.Chains.{cond-yes, cond-no}
 use Rattle.record_soundness.proofs.Laws.Zeros.{zeros-join, word-zero, pair-second}
 
 module _ (marks islands : ℕ) (b : List ℕ) (at : ℕ) (h : at + 8 ≤ length b) where
