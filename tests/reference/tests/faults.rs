@@ -3,9 +3,20 @@
 use reference::compare::Compare;
 use reference::engine::{Engine, Reference};
 
-#[derive(Clone, Copy, PartialEq, Debug)]
-enum Fault {
-    None,
+/// The faults by name, and all of them to be tried.
+macro_rules! faults {
+    ($($fault:ident),+ $(,)?) => {
+        #[derive(Clone, Copy, PartialEq, Debug)]
+        enum Fault {
+            None,
+            $($fault),+
+        }
+
+        const FAULTS: &[Fault] = &[$($fault),+];
+    };
+}
+
+faults! {
     TouchesOnRefusal,
     StepsOnAnUnsoundBoard,
     DecidesBesideAnAdopt,
@@ -103,17 +114,7 @@ fn the_reference_beside_itself() {
 
 #[test]
 fn each_fault_is_found() {
-    let faults = [
-        TouchesOnRefusal,
-        StepsOnAnUnsoundBoard,
-        DecidesBesideAnAdopt,
-        SpentEarly,
-        CountsOneTooMany,
-        LeavesTheLine,
-        TakesTimesForAWord,
-        LaysTooMuch,
-    ];
-    for fault in faults {
+    for &fault in FAULTS {
         assert!(failed(fault) > 0, "{fault:?}");
     }
 }

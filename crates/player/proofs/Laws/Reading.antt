@@ -10,7 +10,7 @@ use Rattle.model.specs.Sheet.{playForm, playReading, playLine}
 use Rattle.sheet.specs.declared.form.LineForm.{LineForm}
 use Rattle.sheet.specs.declared.form.LineForm.the-variants as lines
 use Rattle.sheet.specs.Lines.{lineForm}
-use Rattle.sheet.proofs.Laws.Readings.{read-refused, read-board, read-propose, read-steps, read-show}
+use Rattle.sheet.proofs.Laws.Readings.{read-as}
 use Rattle.walk.specs.Walks.{LineCounts}
 use Rattle.player.specs.declared.line.Played.{Played}
 use Rattle.player.specs.Played.{Plays, TurnsDown, PlaysSteps}
@@ -24,25 +24,25 @@ module _ (laid : ℕ) (m line : List ℕ) (f : LineForm) (read : f ≡ lineForm 
 
   pub line-board : (n K : ℕ) → f ≡ lines.Board n K → Plays (playForm laid m (forms.board n K)) r d → Plays (playLine laid m line) r d
   unfolding playReading
-  line-board n K e h = as-read _ (read-board (readLine line) n K (sym read ∙ e)) h
+  line-board n K e h = as-read _ (read-as (readLine line) (lines.Board n K) (sym read ∙ e)) h
 
   pub line-propose : (i : ℕ) (v : Figure) → f ≡ lines.Propose i v → Plays (playForm laid m (forms.propose i v)) r d → Plays (playLine laid m line) r d
   unfolding playReading
-  line-propose i v e h = as-read _ (read-propose (readLine line) i v (sym read ∙ e)) h
+  line-propose i v e h = as-read _ (read-as (readLine line) (lines.Propose i v) (sym read ∙ e)) h
 
   pub line-steps : (c : ℕ) → f ≡ lines.Steps c → PlaysSteps line laid m r d → Plays (playLine laid m line) r d
   unfolding playReading PlaysSteps
-  line-steps c e h = let s = read-steps (readLine line) c (sym read ∙ e) in as-read _ (s .1) (h (s .0) (s .1))
+  line-steps c e h = let s = read-as (readLine line) (lines.Steps c) (sym read ∙ e) in as-read _ (s .1) (h (s .0) (s .1))
 
   pub line-show : f ≡ lines.Show → Plays (playForm laid m forms.show) r d → Plays (playLine laid m line) r d
   unfolding playReading
-  line-show e h = as-read _ (read-show (readLine line) (sym read ∙ e)) h
+  line-show e h = as-read _ (read-as (readLine line) lines.Show (sym read ∙ e)) h
 
 -- the memory stays as it was
 pub line-turned : (laid : ℕ) (m line : List ℕ) (f : LineForm) → f ≡ lineForm (readLine line) → (r : Played) (k : ℕ) → f ≡ lines.Refused k → TurnsDown k laid r
     → Plays (playLine laid m line) r m
 unfolding playReading
-line-turned laid m line f read r k e t = as-read laid m line f read r m _ (read-refused (readLine line) k (sym read ∙ e)) (turned-plays k laid r t m)
+line-turned laid m line f read r k e t = as-read laid m line f read r m _ (read-as (readLine line) (lines.Refused k) (sym read ∙ e)) (turned-plays k laid r t m)
 
 pub line-counts : (line : List ℕ) (f : LineForm) (c : ℕ) → f ≡ lineForm (readLine line) → f ≡ lines.Steps c → LineCounts line c
 unfolding LineCounts

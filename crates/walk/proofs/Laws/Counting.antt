@@ -17,7 +17,7 @@ use Rattle.model.proofs.Sheet.Written.{written, writtenItems, InRange, items-re
 use Rattle.model.proofs.Sheet.WrittenBack.{LineStood, line-stood}
 use Rattle.sheet.specs.declared.form.LineForm.the-variants.{Steps}
 use Rattle.sheet.specs.Lines.{lineForm}
-use Rattle.sheet.proofs.Laws.Readings.{read-steps}
+use Rattle.sheet.proofs.Laws.Readings.{read-as}
 use Rattle.stepping.specs.Stepped.{RunsOn}
 use Rattle.stepping.proofs.Laws.Running.{runs-below, too-many, board-refuses, ran-through}
 use Rattle.walk.specs.declared.Walked.{Walked}
@@ -45,7 +45,7 @@ module _ (line : List ℕ) (c : ℕ) (counts : LineCounts line c) where
   pub line-reads : c ≤ 65536 → ItemsRead line 6
   unfolding LineCounts
   line-reads h =
-      let s = read-steps (readLine line) c counts in
+      let s = read-as (readLine line) (Steps c) counts in
       record {
         fuel = length (writtenItems (s .0)) + 1;
         value = s .0;
@@ -71,7 +71,7 @@ module _ (line : List ℕ) (c : ℕ) (counts : LineCounts line c) where
       pub taken-below : w .taken ≤ c
       unfolding LineCounts
       taken-below =
-          let s = read-steps (readLine line) c counts in
+          let s = read-as (readLine line) (Steps c) counts in
           omega (arith, counted (s .0) (s .1), runs-below _ _ _ _ (ran-on (s .0) (s .1)))
 
       pub line-ran : boardRefusal b none ≡ none → RunsLine line b (runs.Ran (w .taken) (c - w .taken)) d
