@@ -6,6 +6,7 @@ pub mod Figure
 pub mod Layout
 pub mod Sound
 pub mod Calls
+pub mod Standing
 pub mod Show
 pub mod Told
 pub mod Forms

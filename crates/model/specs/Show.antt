@@ -1,12 +1,13 @@
 -- The line that `show` hands back: "512 bytes, zeros after the line, and its length".
--- Relies on the layout and the calls' refusals; the sheet's printed lines rely on its texts and numbers.
+-- Relies on how a station stands and on the calls' refusals; the sheet's printed lines rely on its texts and numbers.
 use Rattle.model.specs.Kit.{cond, List, [], _∷_, _++_, none, some, ℕ, zero, suc, _+_, _-_, _/_, _%_, leb, ltb, pos, negsuc, length, replicate}
 use Prim.Native.Char.{code}
 use Prim.Native.String.{String, len, charAt}
 use Rattle.model.specs.Figure.{Figure}
-use Rattle.model.specs.Listing.{writing, reading, has-decided, is-spent, Station, idle, active}
+use Rattle.model.specs.Listing.{Station}
 use Rattle.model.specs.Layout.{stationOf}
 use Rattle.model.specs.Calls.{Refusal, boardRefusal, unless, stations, islands}
+use Rattle.model.specs.Standing.{Standing, stands-idle, stands-going, stands-decided, stands-spent, standingOf}
 
 -- the bytes of an ASCII text
 unfoldable pub textFrom : String → (k at : ℕ) → List ℕ
@@ -31,16 +32,18 @@ signed (pos k) = decimal k
 signed (negsuc k) = text "-" ++ decimal (suc k)
 
 -- the word with c and v: `going c v`, `decided c v` or `spent c v`
-unfoldable pub standing : (word : String) (c : ℕ) → Figure → List ℕ
-standing word c v = text word ++ text " " ++ decimal c ++ text " " ++ signed v
+unfoldable pub worded : (word : String) (c : ℕ) → Figure → List ℕ
+worded word c v = text word ++ text " " ++ decimal c ++ text " " ++ signed v
 
--- "`(i idle)`, `(i going c v)`, `(i decided c v)` or `(i spent c v)`, v the carried figure; phases 1 to 6 are going"
+-- "`(i idle)`, `(i going c v)`, `(i decided c v)` or `(i spent c v)`"
+unfoldable pub standingText : Standing → List ℕ
+standingText stands-idle = text "idle"
+standingText (stands-going c x) = worded "going" c x
+standingText (stands-decided c x) = worded "decided" c x
+standingText (stands-spent c x) = worded "spent" c x
+
 unfoldable pub status : Station Figure → List ℕ
-status idle = text "idle"
-status (active v (writing t c x)) = standing "going" c x
-status (active v (reading t c x p a)) = standing "going" c x
-status (active v (has-decided c x)) = standing "decided" c x
-status (active v (is-spent c x)) = standing "spent" c x
+status s = standingText (standingOf s)
 
 -- "per station in order", the first k of them
 unfoldable pub statuses : (k n K : ℕ) → List ℕ → List ℕ

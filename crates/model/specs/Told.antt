@@ -7,10 +7,15 @@ use Rattle.model.specs.declared.Verdict.{Verdict}
 use Rattle.model.specs.declared.Verdict.the-variants as verdicts
 use Rattle.model.specs.declared.RunVerdict.{RunVerdict}
 use Rattle.model.specs.declared.RunVerdict.the-variants as runs
+use Rattle.model.specs.declared.Standing as standings
+use Rattle.model.specs.declared.Standing.the-variants as standing
+use Rattle.model.specs.declared.StandingAnswer as answers
+use Rattle.model.specs.declared.StandingAnswer.the-variants as answer
 use Rattle.model.specs.declared.ShownLine.{ShownLine}
 use Rattle.model.specs.Figure.{Figure}
 use Rattle.model.specs.Listing.{Answer, wrote, read, went, marked, adopted, decided, spent, refused}
 use Rattle.model.specs.Calls.{Refusal, RunAnswer, ran, notRun}
+use Rattle.model.specs.Standing.{Standing, stands-idle, stands-going, stands-decided, stands-spent, StandingAnswer, stands, notTold}
 use Rattle.model.specs.Show.{Shown}
 
 -- "It answers with its kind and fields"; a flag is "1 adopt or 2 commit"
@@ -33,6 +38,17 @@ verdict (verdicts.Refused k) = some k
 unfoldable pub runTold : RunVerdict → RunAnswer
 runTold (runs.Ran s t) = ran s t
 runTold (runs.Refused k) = notRun k
+
+-- how a station stands, and that or the refusal's number
+unfoldable pub standingTold : standings.Standing → Standing
+standingTold standing.Idle = stands-idle
+standingTold (standing.Going c v) = stands-going c v
+standingTold (standing.Decided c v) = stands-decided c v
+standingTold (standing.Spent c v) = stands-spent c v
+
+unfoldable pub standingAnswered : answers.StandingAnswer → StandingAnswer
+standingAnswered (answer.Stands s) = stands (standingTold s)
+standingAnswered (answer.Refused k) = notTold k
 
 -- "by value as 512 bytes, zeros after the line, and its length"
 unfoldable pub shownTold : ShownLine → Shown

@@ -45,6 +45,20 @@ pub enum RunVerdict {
     Refused { number: u8 },
 }
 
+// How a station stands: idle, or going, decided or spent with its island and the figure that it carries.
+pub enum Standing {
+    Idle,
+    Going { island: u8, figure: i32 },
+    Decided { island: u8, figure: i32 },
+    Spent { island: u8, figure: i32 },
+}
+
+// What the call for one station answers: how it stands, or the refusal's number.
+pub enum StandingAnswer {
+    Stands { standing: Standing },
+    Refused { number: u8 },
+}
+
 // What `show` hands back by value: the line, zeros after it, and its length; zeros alone beside a refusal.
 pub struct ShownLine {
     pub verdict: Verdict,

@@ -11,7 +11,8 @@ use Rattle.model.specs.declared.Verdict.the-variants.{Accepted}
 use Rattle.model.specs.Figure.{Figure}
 use Rattle.model.specs.Listing.{writing, reading, has-decided, is-spent, Station, idle, active}
 use Rattle.model.specs.Layout.{stationOf}
-use Rattle.model.specs.Show.{text, textFrom, signed, standing, status, statuses, shownLine, shownAs}
+use Rattle.model.specs.Standing.{standingOf}
+use Rattle.model.specs.Show.{text, textFrom, signed, worded, standingText, status, statuses, shownLine, shownAs}
 use Rattle.model.specs.Calls.{stations, islands}
 use Rattle.model.specs.Told.{verdict, shownTold}
 use Rattle.model.proofs.Board.Good.{GoodStation, GoodStage}
@@ -36,21 +37,21 @@ unfolding text textFrom
 idle-short = omega arith
 
 module _ (c : ℕ) (x : Figure) (h : c < 100) where
-  going-short : length (standing "going" c x) ≤ 22
-  unfolding standing standingBytes text textFrom
+  going-short : length (worded "going" c x) ≤ 22
+  unfolding worded standingBytes text textFrom
   going-short = standing-short (text "going") c x (omega arith) h
 
-  decided-short : length (standing "decided" c x) ≤ 22
-  unfolding standing standingBytes text textFrom
+  decided-short : length (worded "decided" c x) ≤ 22
+  unfolding worded standingBytes text textFrom
   decided-short = standing-short (text "decided") c x (omega arith) h
 
-  spent-short : length (standing "spent" c x) ≤ 22
-  unfolding standing standingBytes text textFrom
+  spent-short : length (worded "spent" c x) ≤ 22
+  unfolding worded standingBytes text textFrom
   spent-short = standing-short (text "spent") c x (omega arith) h
 
 -- "decided", two digits and eleven bytes of a figure are the longest
 pub status-short : (s : Station Figure) → islandShown s < 100 → length (status s) ≤ 22
-unfolding status islandShown
+unfolding status standingText standingOf islandShown
 status-short idle h = idle-short
 status-short (active v (writing t c x)) h = going-short c x h
 status-short (active v (reading t c x p a)) h = going-short c x h

@@ -9,7 +9,8 @@ use Rattle.model.specs.declared.Record.{Record}
 use Rattle.model.specs.Figure.{Figure}
 use Rattle.model.specs.Listing.{Station}
 use Rattle.model.specs.Layout.{recordValue, ofPhase, writingOf, readingOf}
-use Rattle.model.specs.Show.{text, textFrom, decimal, signed, standing, status}
+use Rattle.model.specs.Standing.{standingOf}
+use Rattle.model.specs.Show.{text, textFrom, decimal, signed, worded, standingText, status}
 use Rattle.shown.specs.declared.line.Line.{Line}
 use Rattle.shown.specs.Puts.{Puts}
 use Rattle.shown.specs.Texts.{statusOf, standingBytes}
@@ -39,11 +40,11 @@ puts-status i s p q t u w = puts-then (puts-then (puts-then (puts-then p q) t) u
 -- ---- the words by phase
 
 idle-at : (f : Record) → status (ofPhase 0 f) ≡ text "idle"
-unfolding ofPhase status
+unfolding ofPhase status standingText standingOf
 idle-at f = refl
 
-going-at : (p : ℕ) (f : Record) → (p ≡ 0 → ⊥) → p < 7 → status (ofPhase p f) ≡ standing "going" (f .island) (f .carried)
-unfolding ofPhase writingOf readingOf status
+going-at : (p : ℕ) (f : Record) → (p ≡ 0 → ⊥) → p < 7 → status (ofPhase p f) ≡ worded "going" (f .island) (f .carried)
+unfolding ofPhase writingOf readingOf status standingText standingOf
 going-at zero f n h = absurd (n refl)
 going-at (suc zero) f n h = refl
 going-at (suc (suc zero)) f n h = refl
@@ -53,12 +54,12 @@ going-at (suc (suc (suc (suc (suc zero))))) f n h = refl
 going-at (suc (suc (suc (suc (suc (suc zero)))))) f n h = refl
 going-at (suc (suc (suc (suc (suc (suc (suc p))))))) f n h = absurd (omega arith)
 
-decided-at : (f : Record) → status (ofPhase 7 f) ≡ standing "decided" (f .island) (f .carried)
-unfolding ofPhase status
+decided-at : (f : Record) → status (ofPhase 7 f) ≡ worded "decided" (f .island) (f .carried)
+unfolding ofPhase status standingText standingOf
 decided-at f = refl
 
-spent-at : (p : ℕ) (f : Record) → 7 ≤ p → (p ≡ 7 → ⊥) → status (ofPhase p f) ≡ standing "spent" (f .island) (f .carried)
-unfolding ofPhase status
+spent-at : (p : ℕ) (f : Record) → 7 ≤ p → (p ≡ 7 → ⊥) → status (ofPhase p f) ≡ worded "spent" (f .island) (f .carried)
+unfolding ofPhase status standingText standingOf
 spent-at zero f h n = absurd (omega arith)
 spent-at (suc zero) f h n = absurd (omega arith)
 spent-at (suc (suc zero)) f h n = absurd (omega arith)
@@ -77,17 +78,17 @@ module _ (f : Record) where
 
   pub going-text : (f .phase ≡ 0 → ⊥) → f .phase < 7
       → status (recordValue f) ≡ standingBytes (text "going") (f .island) (f .carried)
-  unfolding recordValue standing standingBytes
+  unfolding recordValue worded standingBytes
   going-text n h = going-at (f .phase) f n h
 
   pub decided-text : f .phase ≡ 7
       → status (recordValue f) ≡ standingBytes (text "decided") (f .island) (f .carried)
-  unfolding recordValue standing standingBytes
+  unfolding recordValue worded standingBytes
   decided-text e = ap (λ (p : ℕ). status (ofPhase p f)) e ∙ decided-at f
 
   pub spent-text : 7 ≤ f .phase → (f .phase ≡ 7 → ⊥)
       → status (recordValue f) ≡ standingBytes (text "spent") (f .island) (f .carried)
-  unfolding recordValue standing standingBytes
+  unfolding recordValue worded standingBytes
   spent-text h n = spent-at (f .phase) f h n
 
 -- a status that is put as a word with the island and the figure z, which the code passed on
