@@ -1,7 +1,10 @@
 -- One access of the listing: what a read and a move keep.
 pub mod Collect
+pub mod Sets
 pub mod Written
 pub mod Order
+pub mod Met
+pub mod Page
 pub mod OneRead
 pub mod Moves
 pub mod Tells

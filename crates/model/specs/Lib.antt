@@ -2,6 +2,7 @@
 pub mod Kit
 pub mod Bytes
 pub mod Listing
+pub mod Collects
 pub mod Figure
 pub mod Layout
 pub mod Sound

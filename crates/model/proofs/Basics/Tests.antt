@@ -42,6 +42,10 @@ pub T-false : (a : Bool) → T (not a) → a ≡ false
 T-false true t = absurd t
 T-false false t = refl
 
+pub no-T : (a : Bool) → (T a → ⊥) → a ≡ false
+no-T true f = absurd (f tt)
+no-T false f = refl
+
 pub clash : {X : Type 0} → true ≡ false → X
 clash e = absurd (let z : _≡_ {A = ℕ} 0 1 = cc in omega arith)
 
@@ -51,11 +55,6 @@ both true true f g = refl
 both true false f g = absurd (f tt)
 both false true f g = absurd (g tt)
 both false false f g = refl
-
--- a Bool is decided
-pub decided-test : (a : Bool) → T a ⊎ T (not a)
-decided-test true = inl tt
-decided-test false = inr tt
 
 pub implies-use : (a b : Bool) → T (implies a b) → T a → T b
 unfolding implies

@@ -14,7 +14,7 @@ use Rattle.model.proofs.Basics.Tests.{true-T, cond-case}
 use Rattle.model.proofs.Board.Codec.{Fits, FitsRegister, FitsSeen}
 use Rattle.model.proofs.Board.Good.{GoodSeen}
 use Rattle.model.proofs.Listing.Collect.{Shows, Something, add-shows}
-use Rattle.model.proofs.Listing.Order.{above-irrefl, above-trans, pair-irrefl, pair-trans}
+use Rattle.model.proofs.Listing.Order.{above-irrefl, above-trans, strict, pair-irrefl, pair-trans}
 
 -- in m a filled register's island is below K; in A and B nothing is asked here
 unfoldable pub GoodRead : (K : ℕ) → Turn → Register Figure → Type 0
@@ -70,10 +70,10 @@ see-fits t a (filled f k y) h l = fits-shown _ .1 (λ s. add-shows figures Fits 
 keep-pair : (c : ℕ) (x : Figure) (k : ℕ) (y : Figure) (j : ℕ) (z : Figure)
     → T (not (pairAbove figures c x k y)) → pairAbove figures j z k y ≡ true → T (not (pairAbove figures c x j z))
 keep-pair c x k y j z h e =
-    not-T (pairAbove figures c x j z) (λ t. T-not (pairAbove figures c x k y) h (pair-trans c x j z k y t (true-T _ e)))
+    not-T (pairAbove figures c x j z) (λ t. T-not (pairAbove figures c x k y) h (pair-trans figures strict c x j z k y t (true-T _ e)))
 
 meet-pair : (c : ℕ) (x : Figure) → T (not (pairAbove figures c x c x))
-meet-pair c x = not-T (pairAbove figures c x c x) (pair-irrefl c x)
+meet-pair c x = not-T (pairAbove figures c x c x) (pair-irrefl figures strict c x)
 
 own-larger : (x y z : Figure) → T (not (figures .above x y)) → T (not (figures .above x (larger figures y z)))
 unfolding larger figures
