@@ -28,7 +28,8 @@ use Rattle.model.proofs.Agreement.Calls.{Inv, inv-initial}
 use Rattle.model.proofs.Agreement.Decisions as invariant
 use Rattle.model.proofs.Sequential.Sequential.{Distinct}
 use Rattle.model.proofs.Bridge.View.{inside, inside-is, view, view-station}
-use Rattle.model.proofs.Bridge.Lists.{Held, after, held-after}
+use Rattle.model.specs.AnyList.{after}
+use Rattle.model.proofs.Bridge.Lists.{Held, held-after}
 use Rattle.model.proofs.Bridge.Along.{mOf}
 use Rattle.model.proofs.Bridge.History.{absurd-idle, proposal-of, steps-of}
 use Rattle.model.proofs.Bridge.Events.{Stepped, Decided, steps-end, decides-end}

@@ -23,6 +23,11 @@ called (laying n K) b = lay n K b .bytes
 called (proposing i v) b = propose i v b .bytes
 called (stepping i) b = step i b .bytes
 
+-- the board that a list of calls leaves
+unfoldable pub after : List Call → List ℕ → List ℕ
+after [] b = b
+after (c ∷ cs) b = after cs (called c b)
+
 -- A figure is a 32-bit one, and a laying in the list is a refused one.
 unfoldable pub Allowed : Call → List ℕ → Type 0
 Allowed (laying n K) b = (k : ℕ) × (lay n K b .answer ≡ some k)

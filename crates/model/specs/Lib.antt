@@ -7,10 +7,12 @@ pub mod Figure
 pub mod Layout
 pub mod Sound
 pub mod Calls
+pub mod Runs
 pub mod Standing
 pub mod Show
 pub mod Told
 pub mod Forms
 pub mod Sheet
 pub mod AnyList
+pub mod SheetList
 pub mod Starred

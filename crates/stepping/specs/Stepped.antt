@@ -12,7 +12,7 @@ use Rattle.model.specs.Listing.{Stage, active, placeArray, placeColumn, accepte
 use Rattle.model.specs.Layout.{boardLength, registerAt, recordValue}
 use Rattle.model.specs.Calls.{access, stepOn}
 use Rattle.model.specs.Told.{told}
-use Rattle.model.proofs.Calls.Runs.{taken, answers, after}
+use Rattle.model.specs.Runs.{taken, answers, after}
 
 -- the offset r of the one register that station index j touches next
 unfoldable pub Touches : (n j : ℕ) (f : Record) (r : ℕ) → Type 0

@@ -15,7 +15,8 @@ use Rattle.model.specs.Figure.{Figure}
 use Rattle.model.specs.Calls.{After, Refusal, RunAnswer, ran, notRun, unless, boardRefusal, ranFrom, step, run, propose}
 use Rattle.model.specs.Told.{verdict, runTold}
 use Rattle.model.proofs.Calls.Refusals.{call-case, unless-none}
-use Rattle.model.proofs.Calls.Runs.{taken, passed, answers, ran-is, ran-both}
+use Rattle.model.specs.Runs.{taken, passed, answers}
+use Rattle.model.proofs.Calls.Runs.{ran-is, ran-both}
 use Rattle.packing.specs.Packing.{packVerdict, packRun, Few}
 
 -- ---- verdicts

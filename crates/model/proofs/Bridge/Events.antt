@@ -16,7 +16,8 @@ use Rattle.model.proofs.Agreement.State.{State, put-same, moveOf, movin
 use Rattle.model.proofs.Agreement.Steps.{stepped-fills}
 use Rattle.model.proofs.Bridge.View.{view, view-station}
 use Rattle.model.proofs.Bridge.Single.{StepSim, step-sim}
-use Rattle.model.proofs.Bridge.Lists.{Held, after}
+use Rattle.model.specs.AnyList.{after}
+use Rattle.model.proofs.Bridge.Lists.{Held}
 use Rattle.model.proofs.Bridge.Along.{mOf}
 use Rattle.model.proofs.Bridge.History.{on, rest, decided-after, active-after, filled-after}
 

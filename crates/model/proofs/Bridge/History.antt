@@ -13,7 +13,8 @@ use Rattle.model.proofs.Listing.Collect.{Filled}
 use Rattle.model.proofs.Listing.Going.{Going}
 use Rattle.model.proofs.Agreement.State.{moveOf}
 use Rattle.model.proofs.Bridge.View.{view}
-use Rattle.model.proofs.Bridge.Lists.{Held, changed, held-along, after}
+use Rattle.model.specs.AnyList.{after}
+use Rattle.model.proofs.Bridge.Lists.{Held, changed, held-along}
 use Rattle.model.proofs.Bridge.Along.{mOf, Along, stays, starts, goes, along}
 
 pub absurd-idle : {X : Type 0} {v : Figure} {s : Stage Figure} {z : Station Figure} → z ≡ idle → z ≡ active v s → X

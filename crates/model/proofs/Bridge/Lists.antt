@@ -12,7 +12,7 @@ use Rattle.model.specs.Bytes.{byte}
 use Rattle.model.specs.Figure.{Figure, figures}
 use Rattle.model.specs.Listing.{accepted}
 use Rattle.model.specs.Calls.{stations, islands, propose, step}
-use Rattle.model.specs.AnyList.{Call, laying, proposing, stepping, called, Allowed, AllAllowed}
+use Rattle.model.specs.AnyList.{Call, laying, proposing, stepping, called, after, Allowed, AllAllowed}
 use Rattle.model.proofs.Basics.Numbers.{same-law}
 use Rattle.model.proofs.Board.Codec.{Fits}
 use Rattle.model.proofs.Calls.CallsKeep.{propose-keeps, step-keeps, propose-head, step-head}
@@ -80,11 +80,6 @@ held-along n K c b h a = record {
   isK = head-along c b a (h .board) 1 (lit< tt) ∙ h .isK;
   inv = inv-along n K c b h (changed n K c b h a);
 }
-
--- the board after the whole list
-unfoldable pub after : List Call → List ℕ → List ℕ
-after [] b = b
-after (c ∷ cs) b = after cs (called c b)
 
 pub held-after : (n K : ℕ) (cs : List Call) (b : List ℕ) → Held n K b → AllAllowed cs b → Held n K (after cs b)
 unfolding after AllAllowed

@@ -5,8 +5,8 @@ use mathlib.Core.List.{List, [], _∷_, map}
 use Prim.Native.Nat.{ℕ}
 use Rattle.model.specs.Calls.{step}
 use Rattle.model.specs.AnyList.{stepping, called}
-use Rattle.model.proofs.Calls.Runs as runs
-use Rattle.model.proofs.Bridge.Lists.{after}
+use Rattle.model.specs.Runs as runs
+use Rattle.model.specs.AnyList.{after}
 
 pub ran-calls : (is b : List ℕ) → runs.after step b is ≡ after (map stepping is) b
 unfolding runs.after after called

@@ -12,18 +12,9 @@ use Rattle.model.specs.Bytes.{byte}
 use Rattle.model.specs.Figure.{Figure}
 use Rattle.model.specs.Listing.{Answer, accepted}
 use Rattle.model.specs.Calls.{After, RunAnswer, ran, notRun, ranFrom, run, boardRefusal, unlessRefused, stepOn, step}
+use Rattle.model.specs.Runs.{taken, passed, after, answers}
 use Rattle.model.proofs.Calls.Refusals.{Board, board-passes, unless-passes, step-on}
 use Rattle.model.proofs.Calls.CallsKeep.{step-keeps, step-head}
-
--- how many of the answers are no refusals
-unfoldable pub taken : List (Answer Figure) → ℕ
-taken [] = 0
-taken (x ∷ xs) = cond (accepted x) 1 0 + taken xs
-
--- and how many are
-unfoldable pub passed : List (Answer Figure) → ℕ
-passed [] = 0
-passed (x ∷ xs) = cond (accepted x) 0 1 + passed xs
 
 pub taken-append : (xs ys : List (Answer Figure)) → taken (xs ++ ys) ≡ taken xs + taken ys
 unfolding taken
@@ -39,35 +30,26 @@ one-more true s t k e = omega arith
 one-more false s t k e = omega arith
 
 module _ (one : ℕ → List ℕ → After (Answer Figure)) where
-  -- the board after single steps, and their answers in order
-  unfoldable pub after : List ℕ → List ℕ → List ℕ
-  after b [] = b
-  after b (i ∷ is) = after (one i b .bytes) is
-
-  unfoldable pub answers : List ℕ → List ℕ → List (Answer Figure)
-  answers b [] = []
-  answers b (i ∷ is) = one i b .answer ∷ answers (one i b .bytes) is
-
   -- steps over two lists are those over the second from where the first ended
-  pub after-append : (b is js : List ℕ) → after b (is ++ js) ≡ after (after b is) js
+  pub after-append : (b is js : List ℕ) → after one b (is ++ js) ≡ after one (after one b is) js
   unfolding after
   after-append b [] js = refl
   after-append b (i ∷ is) js = after-append (one i b .bytes) is js
 
-  pub answers-append : (b is js : List ℕ) → answers b (is ++ js) ≡ answers b is ++ answers (after b is) js
+  pub answers-append : (b is js : List ℕ) → answers one b (is ++ js) ≡ answers one b is ++ answers one (after one b is) js
   unfolding answers after
   answers-append b [] js = refl
   answers-append b (i ∷ is) js = ap (λ (l : List (Answer Figure)). one i b .answer ∷ l) (answers-append (one i b .bytes) is js)
 
   -- what a run of the stations `is` gives after s steps taken and t passed over
   counted : (s t : ℕ) (is b : List ℕ) → After RunAnswer
-  counted s t is b = record { answer = ran (s + taken (answers b is)) (t + passed (answers b is)); bytes = after b is }
+  counted s t is b = record { answer = ran (s + taken (answers one b is)) (t + passed (answers one b is)); bytes = after one b is }
 
   one-taken : (s t : ℕ) (i : ℕ) (is b : List ℕ) (a : Bool)
       → cond a (counted (s + 1) t is (one i b .bytes)) (counted s (t + 1) is (one i b .bytes))
       ≡ (record {
-        answer = ran (s + (cond a 1 0 + taken (answers (one i b .bytes) is))) (t + (cond a 0 1 + passed (answers (one i b .bytes) is)));
-        bytes = after (one i b .bytes) is;
+        answer = ran (s + (cond a 1 0 + taken (answers one (one i b .bytes) is))) (t + (cond a 0 1 + passed (answers one (one i b .bytes) is)));
+        bytes = after one (one i b .bytes) is;
       })
   unfolding counted
   one-taken s t i is b true = same-counts _ _ _ _ _ (omega arith) (omega arith)
@@ -75,7 +57,7 @@ module _ (one : ℕ → List ℕ → After (Answer Figure)) where
 
   -- A run is its single steps: S of them were taken, T refused, and the board is the one that they leave.
   pub ran-is : (s t : ℕ) (is b : List ℕ)
-      → ranFrom one s t is b ≡ (record { answer = ran (s + taken (answers b is)) (t + passed (answers b is)); bytes = after b is })
+      → ranFrom one s t is b ≡ (record { answer = ran (s + taken (answers one b is)) (t + passed (answers one b is)); bytes = after one b is })
   unfolding ranFrom answers after taken passed counted
   ran-is s t [] b = same-counts _ _ _ _ _ (omega arith) (omega arith)
   ran-is s t (i ∷ is) b =
@@ -83,7 +65,7 @@ module _ (one : ℕ → List ℕ → After (Answer Figure)) where
       ∙ one-taken s t i is b (accepted (one i b .answer))
 
   -- S and T together are all of them
-  pub ran-both : (b is : List ℕ) → taken (answers b is) + passed (answers b is) ≡ length is
+  pub ran-both : (b is : List ℕ) → taken (answers one b is) + passed (answers one b is) ≡ length is
   unfolding answers taken passed
   ran-both b [] = refl
   ran-both b (i ∷ is) = one-more (accepted (one i b .answer)) _ _ _ (ran-both (one i b .bytes) is)

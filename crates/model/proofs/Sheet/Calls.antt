@@ -16,11 +16,13 @@ use Rattle.model.specs.AnyList.{Call, stepping, called, Allowed, AllAllo
 use Rattle.model.proofs.Basics.Tests.{cond-case}
 use Rattle.model.proofs.Board.Fresh.{length-fresh}
 use Rattle.model.proofs.Calls.Refusals.{Shape, shape-of, call-case, some-none}
-use Rattle.model.proofs.Bridge.Lists.{Held, after, held-after}
+use Rattle.model.specs.AnyList.{after}
+use Rattle.model.proofs.Bridge.Lists.{Held, held-after}
 use Rattle.model.proofs.Demand3.{fresh-held, demand3}
 use Rattle.model.proofs.Sheet.Written.{InRange}
 use Rattle.model.proofs.Sheet.WrittenBack.{LineStood, line-stood}
-use Rattle.model.proofs.Sheet.Lines.{formCalls, callsOf, Stays, line-leaves}
+use Rattle.model.specs.SheetList.{formCalls, callsOf, Stays, playLines, linesCalls, AllStay, boardOf, SheetDemand3}
+use Rattle.model.proofs.Sheet.Lines.{line-leaves}
 
 -- ---- lists of calls put together
 
@@ -51,20 +53,6 @@ calls-allowed l (unread k) b h = tt
 
 -- ---- lines one after another
 
--- "Each call is lent the board exactly as the call before left it": each line is played where the line before left off.
-unfoldable pub playLines : List (List ℕ) → Played → Played
-playLines [] p = p
-playLines (l ∷ ls) p = playLines ls (playLine (p .laid) (p .memory) l)
-
-unfoldable pub linesCalls : List (List ℕ) → List Call
-linesCalls [] = []
-linesCalls (l ∷ ls) = callsOf (readLine l) ++ linesCalls ls
-
--- no line of them lays another board
-unfoldable pub AllStay : List (List ℕ) → Played → Type 0
-AllStay [] p = Unit {0}
-AllStay (l ∷ ls) p = Stays (p .memory) (readLine l) × AllStay ls (playLine (p .laid) (p .memory) l)
-
 -- That is how a whole sheet is played: lines that follow print what they print where these leave off.
 pub sheet-plays : (ls ks : List (List ℕ)) (p : Played)
     → printed (p .laid) (p .memory) (ls ++ ks) ≡ printed (p .laid) (p .memory) ls ++ printed (playLines ls p .laid) (playLines ls p .memory) ks
@@ -73,10 +61,6 @@ sheet-plays [] ks p = refl
 sheet-plays (l ∷ ls) ks p =
     ap (λ (x : List ℕ). playLine (p .laid) (p .memory) l .printed ++ (10 ∷ x)) (sheet-plays ls ks (playLine (p .laid) (p .memory) l))
     ∙ sym (append-assoc (playLine (p .laid) (p .memory) l .printed) _ _)
-
--- the bytes of the board that was laid last
-unfoldable pub boardOf : Played → List ℕ
-boardOf p = take (p .laid) (p .memory)
 
 -- what holds between the lines: the memory begins with a board of n and K that a list of calls may have left
 pub record Stands (n K : ℕ) (p : Played) : Type 0 where
@@ -166,15 +150,18 @@ module _ (laid : ℕ) (m : List ℕ) (n K : ℕ) (ok : lay n K (take (boardLengt
     held = subst (Held n K) (sym (board-laid ∙ fresh .1)) (fresh-held n K (take (boardLength n K) m) (fresh .0));
   }
 
-  -- The lines that follow, up to the next accepted `board`, leave the board as their calls leave it ..
-  pub sheet-calls : (ls : List (List ℕ)) → AllStay ls (playBoard laid m n K)
+  sheet-calls : (ls : List (List ℕ)) → AllStay ls (playBoard laid m n K)
       → boardOf (playLines ls (playBoard laid m n K)) ≡ after (linesCalls ls) (boardOf (playBoard laid m n K))
   sheet-calls ls h = lines-leave n K ls (playBoard laid m n K) start h
 
-  -- .. and demand 3 holds of those calls as one list.
-  pub sheet-demand3 : (ls : List (List ℕ)) → AllStay ls (playBoard laid m n K) → Demand3 n K (boardOf (playBoard laid m n K)) (linesCalls ls)
+  lines-demand3 : (ls : List (List ℕ)) → AllStay ls (playBoard laid m n K) → Demand3 n K (boardOf (playBoard laid m n K)) (linesCalls ls)
   unfolding AnyList
-  sheet-demand3 ls h =
+  lines-demand3 ls h =
       subst (λ (b : List ℕ). Demand3 n K b (linesCalls ls)) (sym board-laid)
       (demand3 n K (take (boardLength n K) m) ok (linesCalls ls)
       (subst (AllAllowed (linesCalls ls)) board-laid (lines-allowed n K ls (playBoard laid m n K) start h)))
+
+-- From an accepted `board` on, the lines are a list of calls, and demand 3 holds of it.
+pub sheet-demand3 : SheetDemand3
+unfolding SheetDemand3
+sheet-demand3 laid m n K ok ls h = (sheet-calls laid m n K ok ls h, lines-demand3 laid m n K ok ls h)

@@ -22,24 +22,20 @@ use Rattle.model.specs.Show.{text, textFrom, shownLine, shownAs}
 use Rattle.model.specs.Show as shows
 use Rattle.model.specs.Forms.{Form, board, propose, steps, show, expand, Read, found, digit, natural, formIn, tooDeep, orFour, Reading, reads, unread, readLine}
 use Rattle.model.specs.Sheet.{Played, refusedText, orRefused, laidText, proposedText, ranText, shownText, turnedDown, onBoard, playForm, playReading, playLine, linesOf}
+use Rattle.model.specs.SheetList.{LibraryOnly, NotMet, EachPrints, NeverMet}
 use Rattle.model.proofs.Basics.Tests.{true-T, and-l}
 use Rattle.model.proofs.Calls.Refusals.{Board, board-passes, refusal-case, call-case, within}
 use Rattle.model.proofs.Calls.Runs.{ran-is}
-use Rattle.model.proofs.Bridge.Lists.{after}
+use Rattle.model.specs.AnyList.{after}
 use Rattle.model.proofs.Sheet.Readers.{Always}
 use Rattle.model.proofs.Sheet.Numbers.{Stops, natural-decimal}
 use Rattle.model.proofs.Sheet.WrittenBack.{LineStood, line-stood}
-use Rattle.model.proofs.Sheet.Lines.{callsOf, Stays, board-refused, on-board}
-use Rattle.model.proofs.Sheet.Calls.{boardOf, Stands, not-none, line, after-length, stands-after, line-lays, fresh, laid-length, start}
+use Rattle.model.specs.SheetList.{callsOf, Stays}
+use Rattle.model.proofs.Sheet.Lines.{board-refused, on-board}
+use Rattle.model.specs.SheetList.{boardOf}
+use Rattle.model.proofs.Sheet.Calls.{Stands, not-none, line, after-length, stands-after, line-lays, fresh, laid-length, start}
 
 -- ---- what is printed
-
--- the refusals that only library callers meet
-unfoldable pub LibraryOnly : ℕ → Type 0
-LibraryOnly k = (k ≡ 7) ⊎ ((k ≡ 10) ⊎ (k ≡ 11))
-
-unfoldable pub NotMet : (printed : List ℕ) → Type 0
-NotMet t = (k : ℕ) → LibraryOnly k → t ≡ refusedText k → ⊥
 
 -- a refusal's number can be read off its line
 refused-number : (j k : ℕ) → j ≤ 17 → k ≤ 17 → refusedText j ≡ refusedText k → j ≡ k
@@ -265,11 +261,6 @@ module _ (laid : ℕ) (m : List ℕ) (f : Fit laid m) where
 
 -- ---- lines one after another
 
--- each line's printed text has P, and each line is played where the line before left off
-unfoldable pub EachPrints : (List ℕ → Type 0) → List (List ℕ) → Played → Type 0
-EachPrints P [] p = Unit {0}
-EachPrints P (l ∷ ls) p = P (playLine (p .laid) (p .memory) l .printed) × EachPrints P ls (playLine (p .laid) (p .memory) l)
-
 lines-go : (ls : List (List ℕ)) (p : Played) → Fit (p .laid) (p .memory) → EachPrints NotMet ls p
 unfolding EachPrints playLine Goes
 lines-go [] p f = tt
@@ -278,6 +269,6 @@ lines-go (l ∷ ls) p f =
     (g .0, lines-go ls (playLine (p .laid) (p .memory) l) (g .1))
 
 -- No line of any sheet prints refusal 7, 10 or 11.
-pub never-met : (s : List ℕ) → EachPrints NotMet (linesOf s) (record { printed = []; laid = 0; memory = replicate (boardLength 16 64) 0 })
-unfolding boardLength
+pub never-met : NeverMet
+unfolding NeverMet boardLength
 never-met s = lines-go (linesOf s) _ (record { room = length-replicate {A = ℕ} 16904 0; stands = inl refl })

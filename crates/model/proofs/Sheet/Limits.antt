@@ -14,7 +14,8 @@ use Rattle.model.specs.Forms.{station, times, Items, done, next, board, 
 use Rattle.model.specs.Forms.{behind, timesIn, itemIn, itemsIn, same, wordOf, upToStop, firstWord, closing, formAfter, formIn, one, tooDeep, Reading, reads, unread, orFour, readLine}
 use Rattle.model.specs.Sheet.{turnedDown, ranText, playReading, playLine}
 use Rattle.model.proofs.Calls.Refusals.{Board}
-use Rattle.model.proofs.Calls.Runs.{taken, passed, answers, ran-both}
+use Rattle.model.specs.Runs.{taken, passed, answers}
+use Rattle.model.proofs.Calls.Runs.{ran-both}
 use Rattle.model.proofs.Sheet.Lines.{steps-print, steps-six}
 
 pub length-repeated : (k : ℕ) (l : List ℕ) → length (repeated k l) ≡ k * length l

@@ -20,32 +20,14 @@ use Rattle.model.specs.Show.{text, textFrom}
 use Rattle.model.specs.Show as shows
 use Rattle.model.specs.Forms.{Form, board, propose, steps, show, Items, expand, Reading, reads, unread}
 use Rattle.model.specs.Sheet.{Played, refusedText, orRefused, proposedText, ranText, shownText, turnedDown, playBoard, onBoard, playForm, playReading}
-use Rattle.model.specs.AnyList.{Call, proposing, stepping, called}
+use Rattle.model.specs.AnyList.{Call, stepping, called}
+use Rattle.model.specs.SheetList.{formCalls, callsOf, Stays}
 use Rattle.model.proofs.Basics.Tests.{cond-case}
 use Rattle.model.proofs.Calls.Refusals.{Board, board-passes, unless-passes, unless-fails, refusal-case}
-use Rattle.model.proofs.Calls.Runs.{taken, passed, answers, ran-is}
-use Rattle.model.proofs.Bridge.Lists.{after}
+use Rattle.model.specs.Runs.{taken, passed, answers}
+use Rattle.model.proofs.Calls.Runs.{ran-is}
+use Rattle.model.specs.AnyList.{after}
 use Rattle.model.proofs.Bridge.RunCalls.{ran-calls}
-
--- "A sheet's line stands in the list as the single calls it makes; a show alters nothing." A `steps` line that is turned
--- down with 6 makes none. An accepted `board` begins another list, and a refused one is not lent the laid board.
-unfoldable pub formCalls : Form → List Call
-formCalls (board n K) = []
-formCalls (propose i v) = proposing i v ∷ []
-formCalls (steps is) = cond (leb (length (expand is)) 65536) (map stepping (expand is)) []
-formCalls show = []
-
-unfoldable pub callsOf : Reading → List Call
-callsOf (reads f) = formCalls f
-callsOf (unread k) = []
-
--- The line lays no board: it is no `board` line, or one that is refused.
-unfoldable pub Stays : (m : List ℕ) → Reading → Type 0
-Stays m (reads (board n K)) = (k : ℕ) × (lay n K (take (boardLength n K) m) .answer ≡ some k)
-Stays m (reads (propose i v)) = Unit {0}
-Stays m (reads (steps is)) = Unit {0}
-Stays m (reads show) = Unit {0}
-Stays m (unread k) = Unit {0}
 
 -- ---- runs, refused or not
 

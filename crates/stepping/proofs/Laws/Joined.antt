@@ -15,7 +15,8 @@ use Rattle.model.specs.Listing.{Answer, accepted}
 use Rattle.model.specs.Layout.{boardLength}
 use Rattle.model.specs.Calls.{stations, islands, boardRefusal, stepOn, step}
 use Rattle.model.proofs.Calls.Refusals.{Board, board-of, board-passes}
-use Rattle.model.proofs.Calls.Runs.{taken, answers, after, taken-append, answers-append, after-append, after-on, ran-keeps, ran-head}
+use Rattle.model.specs.Runs.{taken, answers, after}
+use Rattle.model.proofs.Calls.Runs.{taken-append, answers-append, after-append, after-on, ran-keeps, ran-head}
 use Rattle.stepping.specs.Stepped.{StepsOn, RunsOn, counts}
 use Rattle.stepping.proofs.Laws.Running.{count-below}
 

@@ -21,7 +21,8 @@ use Rattle.model.specs.Calls.{After, Refusal, RunAnswer, ran, notRun, boardRefu
 use Rattle.model.specs.Told.{told, verdict, runTold}
 use Rattle.model.proofs.Calls.Refusals.{board-of, board-passes, unless-fails, unless-passes}
 use Rattle.model.proofs.Calls.CallsKeep.{stepOn-keeps}
-use Rattle.model.proofs.Calls.Runs.{taken, passed, answers, after, taken-append, answers-append, after-append, ran-is, ran-both, run-on}
+use Rattle.model.specs.Runs.{taken, passed, answers, after}
+use Rattle.model.proofs.Calls.Runs.{taken-append, answers-append, after-append, ran-is, ran-both, run-on}
 use Rattle.stepping.specs.Stepped.{StepsOn, RunsOn, counts}
 use Rattle.stepping.proofs.Laws.Checking.{turned}
 

@@ -14,7 +14,7 @@ use Rattle.model.specs.Calls.{boardRefusal, stepOn}
 use Rattle.model.specs.Listing.{accepted}
 use Rattle.model.specs.Forms.{repeated, expand}
 use Rattle.model.proofs.Basics.Tests.{cond-case}
-use Rattle.model.proofs.Calls.Runs.{taken, answers, after}
+use Rattle.model.specs.Runs.{taken, answers, after}
 use Rattle.model.proofs.Calls.Refused.{stepOn-refused}
 use Rattle.stepping.specs.Stepped.{RunsOn}
 use Rattle.stepping.proofs.Laws.Joined.{runs-none, runs-then}
