@@ -7,3 +7,4 @@ pub mod Refused
 pub mod Local
 pub mod Runs
 pub mod Accepted
+pub mod Claims

@@ -8,10 +8,13 @@ pub mod Layout
 pub mod Sound
 pub mod Calls
 pub mod Runs
+pub mod Claims
 pub mod Standing
 pub mod Show
 pub mod Told
 pub mod Forms
+pub mod Grammar
+pub mod Edges
 pub mod Sheet
 pub mod AnyList
 pub mod SheetList

@@ -105,10 +105,6 @@ module _ {F : Type 0} where
   marked-filled f empty h = h
   marked-filled f (filled g k y) h = tt
 
-  pub says-filled : (r : Register F) (x : F) → Says r x → Filled r
-  says-filled empty x h = h
-  says-filled (filled g k y) x h = tt
-
   pub says-one : (r : Register F) (x y : F) → Says r x → Says r y → x ≡ y
   says-one empty x y h k = absurd h
   says-one (filled g k z) x y p q = cc

@@ -11,7 +11,8 @@ use Rattle.model.specs.Layout.{stationOf}
 use Rattle.model.specs.Calls.{step}
 use Rattle.model.specs.AnyList.{Call, called, AllAllowed, Some, Steps, Decides}
 use Rattle.model.proofs.Listing.Collect.{Filled}
-use Rattle.model.proofs.Listing.Tells.{Tells, Told, move-tells}
+use Rattle.model.specs.Claims.{Tells}
+use Rattle.model.proofs.Listing.Tells.{Told, move-tells}
 use Rattle.model.proofs.Agreement.State.{State, put-same, moveOf, moving}
 use Rattle.model.proofs.Agreement.Steps.{stepped-fills}
 use Rattle.model.proofs.Bridge.View.{view, view-station}

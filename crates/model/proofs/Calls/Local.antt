@@ -13,6 +13,7 @@ use Rattle.model.specs.Listing.{Register, empty, Stage, writing, reading
 use Rattle.model.specs.Listing.{Answer, refused, Move, move, placeArray, placeColumn}
 use Rattle.model.specs.Layout.{registerAt, recordAt, registerOf, recordOf, stationOf}
 use Rattle.model.specs.Calls.{After, Refusal, unless, stations, islands, stationRefusal, stationAt, unlessRefused, putStation, putRegister, notGoing, access, stepped, stepOn, step}
+use Rattle.model.specs.Claims.{Change, change, Effect, apply, touched, Reading}
 use Rattle.model.proofs.Board.Codec.{registerBytes, recordBytes, station}
 use Rattle.model.proofs.Board.Boards.{station-other, register-length, register-record}
 use Rattle.model.proofs.Board.Good.{GoodStation, GoodStage}
@@ -22,23 +23,6 @@ use Rattle.model.proofs.Calls.Access.{write-bytes, read-bytes}
 use Rattle.model.proofs.Listing.Going.{Going}
 use Rattle.model.proofs.Calls.CallsKeep.{going-of}
 use Rattle.model.proofs.Calls.Refusals.{Board, step-on, call-case, station-of, index-inside}
-
--- the bytes put in at an offset
-pub record Change : Type 0 where
-  pub offset : ℕ
-  pub content : List ℕ
-
-unfoldable pub change : List Change → List ℕ → List ℕ
-change [] b = b
-change (c ∷ cs) b = change cs (splice (c .offset) (c .content) b)
-
--- what a step does to whatever board it is lent: its answer, and its changes in order
-pub record Effect : Type 0 where
-  pub answer : Answer Figure
-  pub changes : List Change
-
-unfoldable pub apply : Effect → List ℕ → After (Answer Figure)
-apply e b = record { answer = e .answer; bytes = change (e .changes) b }
 
 unfoldable refusing : ℕ → Effect
 refusing k = record { answer = refused k; changes = [] }
@@ -58,11 +42,6 @@ unfoldable effect : (n K i : ℕ) → Station Figure → Register Figure → Eff
 effect n K i idle r = refusing 14
 effect n K i (active v s) r = moved-effect n K i v s (move figures n K s r)
 
--- the register at the place that a station's next step touches
-unfoldable pub touched : (n i : ℕ) → Station Figure → List ℕ → Register Figure
-touched n i idle b = empty
-touched n i (active v s) b = registerOf n (placeArray s) (placeColumn i s) b
-
 written-bytes : (n : ℕ) (a : Array) (i : ℕ) (w : Option (Register Figure)) (cs : List Change) (b : List ℕ)
     → change cs (putRegister n a i w b) ≡ change (written-at n a i w cs) b
 unfolding change written-at putRegister
@@ -76,14 +55,6 @@ stepped-effect n K i (active v s) b =
     ap (λ (d : List ℕ). record { answer = move figures n K s (registerOf n (placeArray s) (placeColumn i s) b) .answer; bytes = d })
     (written-bytes n (placeArray s) i (move figures n K s (registerOf n (placeArray s) (placeColumn i s) b) .written)
     (record { offset = recordAt n K i; content = recordBytes (active v (move figures n K s (registerOf n (placeArray s) (placeColumn i s) b) .stage)) } ∷ []) b)
-
--- A station whose next step reads.
-unfoldable pub Reading : Station Figure → Type 0
-Reading idle = ⊥
-Reading (active v (writing t c x)) = ⊥
-Reading (active v (reading t c x p a)) = Unit {0}
-Reading (active v (has-decided c x)) = ⊥
-Reading (active v (is-spent c x)) = ⊥
 
 effect-as : (n K i : ℕ) (z : Station Figure) (r s : Register Figure) → (Reading z → r ≡ s) → effect n K i z r ≡ effect n K i z s
 unfolding Reading effect move

@@ -1,6 +1,6 @@
 -- A run is its single steps one after another, and on a sound board soundness need be tested only once.
 -- Relies on CallsKeep and Refusals; the code's run relies on it.
-use mathlib.Core.Path.{_≡_, refl, ap, _∙_}
+use mathlib.Core.Path.{_≡_, refl, sym, ap, _∙_, subst}
 use mathlib.Core.Bool.{Bool, true, false, cond}
 use mathlib.Core.List.{List, [], _∷_, _++_}
 use mathlib.Core.Option.{Option, none}
@@ -11,9 +11,9 @@ use lib.ListN.{length}
 use Rattle.model.specs.Bytes.{byte}
 use Rattle.model.specs.Figure.{Figure}
 use Rattle.model.specs.Listing.{Answer, accepted}
-use Rattle.model.specs.Calls.{After, RunAnswer, ran, notRun, ranFrom, run, boardRefusal, unlessRefused, stepOn, step}
-use Rattle.model.specs.Runs.{taken, passed, after, answers}
-use Rattle.model.proofs.Calls.Refusals.{Board, board-passes, unless-passes, step-on}
+use Rattle.model.specs.Calls.{After, RunAnswer, ran, notRun, unless, ranFrom, run, boardRefusal, unlessRefused, stepOn, step}
+use Rattle.model.specs.Runs.{taken, passed, after, answers, RunsCount}
+use Rattle.model.proofs.Calls.Refusals.{Board, board-passes, unless-passes, call-case, step-on}
 use Rattle.model.proofs.Calls.CallsKeep.{step-keeps, step-head}
 
 pub taken-append : (xs ys : List (Answer Figure)) → taken (xs ++ ys) ≡ taken xs + taken ys
@@ -103,3 +103,27 @@ run-on is b h l =
     ap (λ (r : Option ℕ). unlessRefused r notRun b (ranFrom step 0 0 is b))
     (unless-passes (leb (length is) 65536) 6 (boardRefusal b none) (le→leb (length is) 65536 l) ∙ board-passes b h none)
     ∙ ran-on 0 0 is b h
+
+nothing-more : (x : ℕ) → 0 + x ≡ x
+nothing-more x = omega arith
+
+-- A run that is not turned down is its single steps.
+pub run-is : (is b : List ℕ) → boardRefusal b none ≡ none → length is ≤ 65536
+    → run is b ≡ (record { answer = ran (taken (answers step b is)) (passed (answers step b is)); bytes = after step b is })
+unfolding run unlessRefused
+run-is is b e h =
+    ap (λ (r : Option ℕ). unlessRefused r notRun b (ranFrom step 0 0 is b))
+    (unless-passes (leb (length is) 65536) 6 (boardRefusal b none) (le→leb (length is) 65536 h) ∙ e)
+    ∙ ran-is step 0 0 is b
+    ∙ (λ j. record { answer = ran (nothing-more (taken (answers step b is)) j) (nothing-more (passed (answers step b is)) j); bytes = after step b is })
+
+pub runs-count : RunsCount
+unfolding RunsCount
+runs-count is b e h = (run-is is b e h, ran-both step b is)
+
+-- Whatever a run answers, a sound board stays sound.
+pub run-keeps : (is b : List ℕ) → Board b → Board (run is b .bytes)
+unfolding run
+run-keeps is b h =
+    call-case (λ (a : After RunAnswer). Board (a .bytes)) (unless (leb (length is) 65536) 6 (boardRefusal b none)) notRun b (ranFrom step 0 0 is b)
+    (λ e. subst (λ (a : After RunAnswer). Board (a .bytes)) (sym (ran-is step 0 0 is b)) (ran-keeps is b h)) (λ k e. h)

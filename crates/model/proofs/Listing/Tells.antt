@@ -6,20 +6,11 @@ use Prim.Native.Nat.{ℕ, _+_}
 use lib.Dec.{ltb}
 use Rattle.model.specs.Listing.{Order, Flag, adopt, commit, flagNumber, Turn, turnM, turnA, turnB, Grade, first, second, third, Register, Seen, nothing, seen}
 use Rattle.model.specs.Listing.{Stage, writing, reading, has-decided, is-spent, Answer, wrote, read, went, marked, adopted, decided, spent, refused}
+use Rattle.model.specs.Claims.{Tells}
 use Rattle.model.proofs.Basics.Tests.{cond-case}
 use Rattle.model.specs.Listing.{Move, stay, onward, finish, ended, see, move}
 
 module _ {F : Type 0} where
-  unfoldable pub Tells : Answer F → Stage F → Type 0
-  Tells wrote s = (t : Turn) × (c : ℕ) × (x : F) × (s ≡ reading t c x 0 nothing)
-  Tells read s = (t : Turn) × (c : ℕ) × (x : F) × (p : ℕ) × (a : Seen F) × (s ≡ reading t c x p a)
-  Tells (went c x) s = s ≡ writing turnA c x
-  Tells (marked k x) s = (f : Flag) × (k ≡ flagNumber f) × (c : ℕ) × (s ≡ writing (turnB f) c x)
-  Tells (adopted c x) s = s ≡ writing turnM c x
-  Tells (decided c x) s = s ≡ has-decided c x
-  Tells (spent c x) s = s ≡ is-spent c x
-  Tells (refused k) s = Unit {0}
-
   unfoldable pub Told : Move F → Type 0
   Told m = Tells (m .answer) (m .stage)
 

@@ -19,7 +19,7 @@ use Rattle.model.proofs.Calls.Refusals.{Shape, shape-of, call-case, som
 use Rattle.model.specs.AnyList.{after}
 use Rattle.model.proofs.Bridge.Lists.{Held, held-after}
 use Rattle.model.proofs.Demand3.{fresh-held, demand3}
-use Rattle.model.proofs.Sheet.Written.{InRange}
+use Rattle.model.specs.Grammar.{InRange}
 use Rattle.model.proofs.Sheet.WrittenBack.{LineStood, line-stood}
 use Rattle.model.specs.SheetList.{formCalls, callsOf, Stays, playLines, linesCalls, AllStay, boardOf, SheetDemand3}
 use Rattle.model.proofs.Sheet.Lines.{line-leaves}

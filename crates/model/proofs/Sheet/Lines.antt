@@ -25,7 +25,7 @@ use Rattle.model.specs.SheetList.{formCalls, callsOf, Stays}
 use Rattle.model.proofs.Basics.Tests.{cond-case}
 use Rattle.model.proofs.Calls.Refusals.{Board, board-passes, unless-passes, unless-fails, refusal-case}
 use Rattle.model.specs.Runs.{taken, passed, answers}
-use Rattle.model.proofs.Calls.Runs.{ran-is}
+use Rattle.model.proofs.Calls.Runs.{run-is}
 use Rattle.model.specs.AnyList.{after}
 use Rattle.model.proofs.Bridge.RunCalls.{ran-calls}
 
@@ -37,9 +37,6 @@ unfolding after called step unlessRefused
 steps-refused [] b k e = refl
 steps-refused (i ∷ is) b k e =
     ap (λ (r : Refusal). after (map stepping is) (unlessRefused r refused b (stepOn i b) .bytes)) e ∙ steps-refused is b k e
-
-nothing-more : (x : ℕ) → 0 + x ≡ x
-nothing-more x = omega arith
 
 module _ (is b : List ℕ) where
   pub run-six : 65536 < length is → run is b ≡ (record { answer = notRun 6; bytes = b })
@@ -58,11 +55,8 @@ module _ (is b : List ℕ) where
 
     pub run-taken : boardRefusal b none ≡ none
         → run is b ≡ (record { answer = ran (taken (answers step b is)) (passed (answers step b is)); bytes = after (map stepping is) b })
-    unfolding run unlessRefused
     run-taken e =
-        ap (λ (r : Refusal). unlessRefused r notRun b (ranFrom step 0 0 is b)) (passes-six ∙ e)
-        ∙ ran-is step 0 0 is b
-        ∙ (λ j. record { answer = ran (nothing-more (taken (answers step b is)) j) (nothing-more (passed (answers step b is)) j); bytes = ran-calls is b j })
+        run-is is b e h ∙ (λ j. record { answer = ran (taken (answers step b is)) (passed (answers step b is)); bytes = ran-calls is b j })
 
   -- whatever a run answers, the bytes are those that its single steps leave
   pub run-leaves : run is b .bytes ≡ after (cond (leb (length is) 65536) (map stepping is) []) b
@@ -77,11 +71,6 @@ module _ (is b : List ℕ) where
       go h (inr e) = ap (λ (a : After RunAnswer). a .bytes) (run-turned-down h (e .0) (e .1)) ∙ sym (steps-refused is b (e .0) (e .1))
 
 -- ---- lines
-
--- "(proposed .." is no "(refused .."
-apart : (i : ℕ) (v : Figure) (k : ℕ) → refusedText k ≡ proposedText i v → ⊥
-unfolding refusedText proposedText text textFrom
-apart i v k e = let second : _≡_ {A = ℕ} 114 112 = ap (λ (l : List ℕ). byte l 1) e in omega arith
 
 module _ (laid : ℕ) (m : List ℕ) where
   -- a refused `board` line alters nothing
@@ -100,18 +89,6 @@ module _ (laid : ℕ) (m : List ℕ) where
         → playForm laid m (propose i v) .printed ≡ orRefused (calls.propose i v (take laid m) .answer) (proposedText i v)
     unfolding playForm
     propose-prints i v = ap (λ (p : Played). p .printed) (on-board (λ a. orRefused a (proposedText i v)) (calls.propose i v))
-
-    pub proposed-exactly : (i : ℕ) (v : Figure)
-        → (playForm laid m (propose i v) .printed ≡ proposedText i v) ↔ (calls.propose i v (take laid m) .answer ≡ none)
-    unfolding orRefused
-    proposed-exactly i v = (
-      (λ e. told (calls.propose i v (take laid m) .answer) (sym (propose-prints i v) ∙ e)),
-      (λ e. propose-prints i v ∙ ap (λ (a : Refusal). orRefused a (proposedText i v)) e),
-    )
-      where
-        told : (a : Refusal) → orRefused a (proposedText i v) ≡ proposedText i v → a ≡ none
-        told none e = refl
-        told (some k) e = absurd (apart i v k e)
 
     -- "prints (ran S T): S steps taken, T steps refused and passed over", counted on the single steps' own answers
     pub steps-print : (is : Items) → length (expand is) ≤ 65536 → Board (take laid m)
@@ -133,10 +110,6 @@ module _ (laid : ℕ) (m : List ℕ) where
     -- "6. The items expand to more than 65,536 steps."
     pub steps-six : (is : Items) → 65536 < length (expand is) → playForm laid m (steps is) ≡ turnedDown laid m 6
     steps-six is h = turned is 6 (run-six (expand is) (take laid m) h)
-
-    pub steps-turned-down : (is : Items) → length (expand is) ≤ 65536 → (k : ℕ) → boardRefusal (take laid m) none ≡ some k
-        → playForm laid m (steps is) ≡ turnedDown laid m k
-    steps-turned-down is h k e = turned is k (run-turned-down (expand is) (take laid m) h k e)
 
     leaves : {A : Type 0} (say : A → List ℕ) (call : List ℕ → After A) {d : List ℕ} → call (take laid m) .bytes ≡ d
         → (onBoard laid m say call .laid ≡ laid) × (onBoard laid m say call .memory ≡ d ++ drop laid m)

@@ -1,5 +1,5 @@
--- The forms of a run sheet written out by 01's grammar, and that the reader finds in a written form that form.
--- Relies on the forms and on their numbers; WrittenBack has the other direction.
+-- The reader finds in a form written out by 01's grammar that form.
+-- Relies on the grammar and on the reading of its numbers; WrittenBack has the other direction.
 use mathlib.Core.Path.{_≡_, refl, sym, ap, _∙_, subst}
 use mathlib.Core.Bool.{Bool, false, not}
 use mathlib.Core.List.{List, [], _∷_, _++_, append-assoc}
@@ -15,49 +15,9 @@ use Rattle.model.specs.Calls.{Refusal, unless}
 use Rattle.model.specs.Show.{textFrom, text, decimalIn, decimal, signed}
 use Rattle.model.specs.Forms.{Item, station, times, Items, done, next, Form, board, propose, steps, show, found, spaced, digit, number}
 use Rattle.model.specs.Forms.{behind, timesIn, itemIn, itemsIn, same, wordOf, upToStop, firstWord, closing, stepsWord, formAfter, formIn, tooDeep, Reading, reads, unread, orFour, readLine}
+use Rattle.model.specs.Grammar.{writtenItem, writtenItems, written, AtLeastOne, ItemInRange, ItemsInRange, InRange, ReadsWritten}
 use Rattle.model.proofs.Calls.Refusals.{unless-passes}
 use Rattle.model.proofs.Sheet.Numbers.{Stops, then-found, digit-not, decimal-begins, number-decimal, figure-signed}
-
--- ---- 01's grammar
-
--- "An item is a station number or `(times k item ..)`", and each item stands behind a space
-unfoldable mutual
-  pub writtenItem : Item → List ℕ
-  writtenItem (station i) = decimal i
-  writtenItem (times k is) = text "(times " ++ (decimal k ++ (writtenItems is ++ text ")"))
-
-  pub writtenItems : Items → List ℕ
-  writtenItems done = []
-  writtenItems (next i is) = text " " ++ (writtenItem i ++ writtenItems is)
-
--- "`(board n K)`", "`(propose i v)`", "`(steps item ..)`, perhaps with no item", "`(show)`"
-unfoldable pub written : Form → List ℕ
-written (board n K) = text "(board " ++ (decimal n ++ (text " " ++ (decimal K ++ text ")")))
-written (propose i v) = text "(propose " ++ (decimal i ++ (text " " ++ (signed v ++ text ")")))
-written (steps is) = text "(steps" ++ (writtenItems is ++ text ")")
-written show = text "(show)"
-
--- "at least one item"
-unfoldable pub AtLeastOne : Items → Type 0
-AtLeastOne done = ⊥
-AtLeastOne (next i is) = Unit {0}
-
--- "stations are 0 to 99"; "which holds at least one item again, k from 1 to 99,999"
-unfoldable mutual
-  pub ItemInRange : Item → Type 0
-  ItemInRange (station i) = i ≤ 99
-  ItemInRange (times k is) = (1 ≤ k) × (k ≤ 99999) × AtLeastOne is × ItemsInRange is
-
-  pub ItemsInRange : Items → Type 0
-  ItemsInRange done = Unit {0}
-  ItemsInRange (next i is) = ItemInRange i × ItemsInRange is
-
--- "n, K and stations are 0 to 99"; "A figure is a signed 32-bit whole number; its full width is allowed."
-unfoldable pub InRange : Form → Type 0
-InRange (board n K) = (n ≤ 99) × (K ≤ 99)
-InRange (propose i v) = (i ≤ 99) × SFits w32 v
-InRange (steps is) = ItemsInRange is
-InRange show = Unit {0}
 
 -- ---- what is read of a written form
 
@@ -158,8 +118,8 @@ unfolding formAfter same
 steps-read is h = then-found _ (items-read is _ (omega (arith, length-append (writtenItems is) (41 ∷ []))) h [])
 
 -- The reader finds in a written form that form.
-pub reads-written : (f : Form) → InRange f → formIn (written f) ≡ some f
-unfolding written InRange text textFrom formIn firstWord upToStop wordOf same formAfter spaced closing writtenItems
+pub reads-written : ReadsWritten
+unfolding ReadsWritten written InRange text textFrom formIn firstWord upToStop wordOf same formAfter spaced closing writtenItems
 reads-written (board n K) h =
     then-found _ (station-read n (h .0) _ (space-stops _)) ∙ then-found _ (station-read K (h .1) _ (bracket-stops []))
 reads-written (propose i v) h =
@@ -167,12 +127,3 @@ reads-written (propose i v) h =
 reads-written (steps done) h = steps-read done h
 reads-written (steps (next i is)) h = steps-read (next i is) h
 reads-written show h = refl
-
--- So a written line that is not too long and not too deep is read.
-pub reads-line : (f : Form) → InRange f → length (written f) ≤ 255 → tooDeep 0 0 (written f) ≡ false → readLine (written f) ≡ reads f
-unfolding readLine orFour
-reads-line f h l d =
-    ap (λ (r : Refusal). elim r as (λ x. Reading) [ none ↦ orFour (formIn (written f)) | some k ↦ unread k ])
-    (unless-passes (leb (length (written f)) 255) 2 (unless (not (tooDeep 0 0 (written f))) 3 none) (le→leb (length (written f)) 255 l)
-    ∙ unless-passes (not (tooDeep 0 0 (written f))) 3 none (subst (λ (t : Bool). T (not t)) (sym d) tt))
-    ∙ ap orFour (reads-written f h)

@@ -17,10 +17,12 @@ use Rattle.model.specs.Calls.{Refusal, unless}
 use Rattle.model.specs.Show.{textFrom, text, decimal, signed}
 use Rattle.model.specs.Forms.{times, Items, done, next, Form, board, propose, steps, show, Read, found, andThen, spaced, number, figureIn, behind, timesIn, itemIn, itemsIn}
 use Rattle.model.specs.Forms.{Word, boardWord, proposeWord, stepsWord, showWord, same, wordOf, upToStop, firstWord, closing, formAfter, formIn, tooDeep, Reading, reads, unread, orFour, readLine}
+use Rattle.model.specs.Grammar.{WrittenReads}
 use Rattle.model.proofs.Basics.Tests.{true-T, and-l, and-r, cond-case}
 use Rattle.model.proofs.Sheet.Readers.{Always, always-map, always-then, always-if}
 use Rattle.model.proofs.Sheet.NumbersBack.{Stood, in-front, spaced-stood, number-stood, figure-stood}
-use Rattle.model.proofs.Sheet.Written.{writtenItem, writtenItems, written, AtLeastOne, ItemInRange, ItemsInRange, InRange, times-regrouped, next-regrouped}
+use Rattle.model.specs.Grammar.{writtenItem, writtenItems, written, AtLeastOne, ItemInRange, ItemsInRange, InRange}
+use Rattle.model.proofs.Sheet.Written.{times-regrouped, next-regrouped}
 
 -- ---- items
 
@@ -205,8 +207,8 @@ form-stood l = go (wordOf (firstWord l)) (word-stood (firstWord l))
         (after-stood w (drop (length (wordText w) + 1) l)))
 
 -- The reader takes nothing for a form but what the grammar writes for it, in its ranges.
-pub written-reads : (l : List ℕ) (f : Form) → formIn l ≡ some f → (l ≡ written f) × InRange f
-unfolding Always FormStood
+pub written-reads : WrittenReads
+unfolding WrittenReads Always FormStood
 written-reads l f e = subst (Always (FormStood l)) e (form-stood l)
 
 -- ---- lines

@@ -13,7 +13,8 @@ use Rattle.model.specs.Calls.{boardRefusal}
 use Rattle.model.specs.Forms.{Items, steps, expand, found, itemsIn, reads, readLine}
 use Rattle.model.specs.Show.{text, textFrom}
 use Rattle.model.specs.Told.{verdict}
-use Rattle.model.proofs.Sheet.Written.{written, writtenItems, InRange, items-read}
+use Rattle.model.specs.Grammar.{written, writtenItems, InRange}
+use Rattle.model.proofs.Sheet.Written.{items-read}
 use Rattle.model.proofs.Sheet.WrittenBack.{LineStood, line-stood}
 use Rattle.sheet.specs.declared.form.LineForm.the-variants.{Steps}
 use Rattle.sheet.specs.Lines.{lineForm}

@@ -1,0 +1,80 @@
+-- The edges of the sheet's grammar as one table: a row is a line and what is read in it.
+-- Relies on the forms; proofs/Sheet/Limits.antt proves the one statement `Edges`.
+use Rattle.model.specs.Kit.{List, [], _∷_, _++_, ℕ, zero, suc, replicate, pos, negsuc}
+use mathlib.Core.Path.{_≡_}
+use Rattle.model.specs.Show.{text}
+use Rattle.model.specs.Forms.{station, times, Items, done, next, board, propose, steps, show, Reading, reads, unread, readLine}
+
+-- what `(steps (times k 1))` holds
+unfoldable pub timesOne : (k : ℕ) → Items
+timesOne k = next (times k (next (station 1) done)) done
+
+pub record Row : Type 0 where
+  pub line : List ℕ
+  pub reading : Reading
+
+-- one item inside k brackets of `times`
+unfoldable pub deep : (k : ℕ) → Items
+deep zero = next (station 1) done
+deep (suc k) = next (times 1 (deep k)) done
+
+unfoldable pub rows : List Row
+rows =
+    -- "Nine open brackets give 3; eight do not", of a row of them and of a form
+    record { line = text "((((((((("; reading = unread 3 }
+    ∷ record { line = text "(((((((("; reading = unread 4 }
+    ∷ record { line = text "(steps (times 1 (times 1 (times 1 (times 1 (times 1 (times 1 (times 1 (times 1 1)))))))))"; reading = unread 3 }
+    ∷ record { line = text "(steps (times 1 (times 1 (times 1 (times 1 (times 1 (times 1 (times 1 1))))))))"; reading = reads (steps (deep 7)) }
+    -- "opening brackets exceed closing ones by more than 8": a closing one before them counts
+    ∷ record { line = text ")((((((((("; reading = unread 4 }
+    ∷ record { line = text ")(((((((((("; reading = unread 3 }
+    -- "longer than 255 bytes", which comes before the brackets
+    ∷ record { line = replicate 256 40; reading = unread 2 }
+    ∷ record { line = replicate 255 40; reading = unread 3 }
+    ∷ record { line = text "(show)" ++ replicate 250 32; reading = unread 2 }
+    ∷ record { line = text "(show)" ++ replicate 249 32; reading = unread 4 }
+    -- "Numbers have no plus, no leading zero, no −0"
+    ∷ record { line = text "(propose 1 +7)"; reading = unread 4 }
+    ∷ record { line = text "(board 03 2)"; reading = unread 4 }
+    ∷ record { line = text "(propose 1 -07)"; reading = unread 4 }
+    ∷ record { line = text "(propose 1 -0)"; reading = unread 4 }
+    ∷ record { line = text "(propose 1 0)"; reading = reads (propose 1 (pos 0)) }
+    -- "n, K and stations are 0 to 99"
+    ∷ record { line = text "(board 99 0)"; reading = reads (board 99 0) }
+    ∷ record { line = text "(board 100 2)"; reading = unread 4 }
+    ∷ record { line = text "(steps 0 99)"; reading = reads (steps (next (station 0) (next (station 99) done))) }
+    ∷ record { line = text "(steps 100)"; reading = unread 4 }
+    -- "A figure is a signed 32-bit whole number; its full width is allowed."
+    ∷ record { line = text "(propose 1 2147483647)"; reading = reads (propose 1 (pos 2147483647)) }
+    ∷ record { line = text "(propose 1 2147483648)"; reading = unread 4 }
+    ∷ record { line = text "(propose 1 -2147483648)"; reading = reads (propose 1 (negsuc 2147483647)) }
+    ∷ record { line = text "(propose 1 -2147483649)"; reading = unread 4 }
+    -- "single spaces, no others"
+    ∷ record { line = text "(board  3 2)"; reading = unread 4 }
+    ∷ record { line = text "(board 3 2 )"; reading = unread 4 }
+    ∷ record { line = text " (show)"; reading = unread 4 }
+    ∷ record { line = text "(show) "; reading = unread 4 }
+    ∷ record { line = text "(steps(times 2 1))"; reading = unread 4 }
+    -- "`(steps item ..)`, perhaps with no item"; "`(times k item ..)`, which holds at least one item again, k from 1 to 99,999"
+    ∷ record { line = text "(steps)"; reading = reads (steps done) }
+    ∷ record { line = text "(steps )"; reading = unread 4 }
+    ∷ record { line = text "(steps ())"; reading = unread 4 }
+    ∷ record { line = text "(steps (times 2))"; reading = unread 4 }
+    ∷ record { line = text "(steps (times 0 1))"; reading = unread 4 }
+    ∷ record { line = text "(steps (times 99999 1))"; reading = reads (steps (timesOne 99999)) }
+    ∷ record { line = text "(steps (times 100000 1))"; reading = unread 4 }
+    -- "The line is none of the forms"
+    ∷ record { line = text ""; reading = unread 4 }
+    ∷ record { line = text "(show"; reading = unread 4 }
+    ∷ record { line = text "(times 2)"; reading = unread 4 }
+    ∷ record { line = text "(times 2 1)"; reading = unread 4 }
+    ∷ record { line = text "(Show)"; reading = unread 4 }
+    ∷ []
+
+unfoldable pub Holds : List Row → Type 0
+Holds [] = Unit {0}
+Holds (r ∷ rs) = (readLine (r .line) ≡ r .reading) × Holds rs
+
+-- Every row holds.
+unfoldable pub Edges : Type 0
+Edges = Holds rows
