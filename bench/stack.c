@@ -27,6 +27,7 @@ static const char *const names[] = {
     "lufanelis_propose",
     "lufanelis_check",
     "lufanelis_step",
+    "lufanelis_standing",
     "lufanelis_run",
     "lufanelis_show",
     "lufanelis_word",
@@ -57,6 +58,7 @@ static void calls(void)
         lufanelis_propose(board, sizeof board, (uint8_t)i, INT32_MIN + i);
     MEASURE(lufanelis_check(board, sizeof board));
     MEASURE(lufanelis_step(board, sizeof board, 1));
+    MEASURE(lufanelis_standing(board, sizeof board, 16));
     for (size_t i = 0; i < sizeof stations; i++)
         stations[i] = (uint8_t)(i % 16 + 1);
     MEASURE(lufanelis_run(board, sizeof board, stations, sizeof stations));

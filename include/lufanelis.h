@@ -1,16 +1,21 @@
-/* The settlement engine as C calls it: crates/capi, built by `rt staticlib capi` to target/staticlib/libcapi.a.
+/* The settlement engine as C calls it: crates/capi, built by `rt staticlib capi` to target/staticlib/libcapi.a. The archive is
+ * for x86-64 Linux; the crates are for whatever the kit compiles to.
  * Beside the archive a program links memcpy and memset, which every C library has.
  * The definitions of every answer are crates/packing/specs and crates/capi/specs; each call is proved to give exactly what
  * they say.
  *
  * The engine owns no memory and keeps nothing between calls. It reads and writes lent bytes alone, of any content and any
- * length, and each call below says which of them it writes. A refusal changes no byte.
+ * length, and each call below says which of them it writes. A call that answers with a refusal's number changes no lent byte.
+ * `lufanelis_play_line` answers with no such number: it prints `(refused N)` to `printed`, as it prints every other answer, and
+ * `memory` stays as it was.
  *
  * What the caller owes: each pointer is not null, also where its length is 0, and points to as many bytes as the length
  * behind it says; bytes that a call may write are lent by one of its pointers only; nobody else touches lent bytes until
  * the call returns.
  *
- * A *figure* is a signed 32-bit number. Stations are numbered from 1, islands from 0. */
+ * A *figure* is a signed 32-bit number. Stations are numbered from 1, islands from 0. A line that is handed back has at most
+ * 449 bytes, and zeros after it up to 512; so it always ends in a zero byte, as a string of C does. The functions at the end
+ * take answers apart. */
 #ifndef LUFANELIS_H
 #define LUFANELIS_H
 
@@ -21,7 +26,8 @@
 extern "C" {
 #endif
 
-/* Why a call is turned down, in the order in which it is tested. 1 to 5 stand in printed lines only, as `(refused 4)`. */
+/* Why a call is turned down, in the order in which it is tested. 1 to 5 are no call's answer: 1 is printed by the program that
+ * plays whole sheets and by no call of this header, 2 to 5 by `lufanelis_play_line` alone. */
 enum {
     LUFANELIS_ACCEPTED = 0,
     LUFANELIS_TOO_MANY_STEPS = 6,     /* a run of more than 65,536 stations */
@@ -35,7 +41,7 @@ enum {
     LUFANELIS_IDLE = 14,              /* the station to step */
     LUFANELIS_HAS_DECIDED = 15,
     LUFANELIS_IS_SPENT = 16,
-    LUFANELIS_LINE_TOO_LONG = 17      /* a shown line of more than 512 bytes */
+    LUFANELIS_LINE_TOO_LONG = 17      /* a shown line of more than 512 bytes; no board has one */
 };
 
 /* What a step did. */
@@ -53,6 +59,14 @@ enum {
 enum {
     LUFANELIS_ADOPT = 1,
     LUFANELIS_COMMIT = 2
+};
+
+/* How a station stands. */
+enum {
+    LUFANELIS_STANDS_IDLE = 1,     /* it has not proposed */
+    LUFANELIS_STANDS_GOING = 2,    /* it has proposed and takes steps, phases 1 to 6 */
+    LUFANELIS_STANDS_DECIDED = 3,
+    LUFANELIS_STANDS_SPENT = 4     /* it went through all islands and decided nothing */
 };
 
 /* The length of a board for n stations and K islands. */
@@ -85,6 +99,15 @@ uint8_t lufanelis_check(const uint8_t *board, size_t board_length);
  *   bits 32 to 63   the figure of these five, 32 bits of two's complement; else 0 */
 uint64_t lufanelis_step(uint8_t *board, size_t board_length, uint8_t station);
 
+/* How one station stands: what a station asks that comes back to a board. Writes nothing. Answers
+ *   bits 0 to 7     the refusal's number (7 to 12), 0 for an answer
+ *   bits 8 to 11    how it stands, 1 to 4 as above; 0 beside a refusal
+ *   bits 12 to 19   the island where it stands; 0 for an idle station and beside a refusal
+ *   bits 20 to 31   0
+ *   bits 32 to 63   the figure that it carries, 32 bits of two's complement, which is the decided one where it has decided;
+ *                   0 for an idle station and beside a refusal */
+uint64_t lufanelis_standing(const uint8_t *board, size_t board_length, uint8_t station);
+
 /* Steps the stations of a list in turn and passes over the steps that are refused (12, 14, 15, 16). Writes `board`. Answers
  *   bits 0 to 7     the refusal's number (6 to 11), 0 for a run
  *   bits 8 to 31    how many steps were taken, at most 65,536; 0 beside a refusal
@@ -93,11 +116,11 @@ uint64_t lufanelis_step(uint8_t *board, size_t board_length, uint8_t station);
 uint64_t lufanelis_run(uint8_t *board, size_t board_length, const uint8_t *stations, size_t stations_length);
 
 /* The line `(stations ..)` that says how each station stands. Writes the first 512 bytes of `line`: the line and zeros after
- * it, or zeros alone beside a refusal; the bytes behind them stay. Answers
+ * it; the bytes behind them stay. Answers
  *   bits 0 to 7     the refusal's number (7 to 11), 0 for a line
  *   bits 8 to 15    0
  *   bits 16 to 31   the line's length; 0 beside a refusal
- * or LUFANELIS_NOT_SHOWN where `line_length` is below 512, and then writes nothing. */
+ * or LUFANELIS_NOT_SHOWN where `line_length` is below 512. Beside a refusal and LUFANELIS_NOT_SHOWN it writes nothing. */
 uint32_t lufanelis_show(const uint8_t *board, size_t board_length, uint8_t *line, size_t line_length);
 
 /* The word that names the form of a run sheet's line: board, propose, steps or show. Writes nothing. Answers
@@ -110,10 +133,68 @@ uint64_t lufanelis_word(const uint8_t *line, size_t line_length);
  * `laid` is 0 before there is one. Writes `memory` as the line's call writes its board, and the first 512 bytes of `printed`:
  * what the line prints, without a line feed, and zeros after it; the bytes behind them stay. Answers
  *   bits 0 to 15    the length of what is printed
- *   bits 16 to 63   the `laid` for the next line
- * or LUFANELIS_NOT_PLAYED where `printed_length` is below 512 or `laid` above 4,294,967,295, and then writes nothing. */
+ *   bits 16 to 63   the `laid` for the next line: the length of the board that this one laid, or `laid` as it was given
+ * or LUFANELIS_NOT_PLAYED where `printed_length` is below 512 or `laid` above 4,294,967,295, and then writes nothing.
+ *
+ * A line feed in `line` is a byte like any other: no form has one, so such a line prints `(refused 4)`, or 2 or 3 where it is
+ * too long or too deep. Where `laid` exceeds `memory_length` the board is the whole memory: propose, steps and show go on if
+ * that is a sound board by chance, and are refused with 7 to 11 if not. A board that does not fit the memory is not laid, with
+ * 10, or with 7 where the memory has fewer than 8 bytes. */
 uint64_t lufanelis_play_line(const uint8_t *line, size_t line_length, size_t laid, uint8_t *memory, size_t memory_length,
                              uint8_t *printed, size_t printed_length);
+
+/* Answers taken apart. Each function is given an answer of the call that it is named after and hands back the part of it that
+ * its own name says, 0 where the answer has none. */
+
+/* The signed number that 32 bits of two's complement stand for. */
+static inline int32_t lufanelis_figure(uint32_t bits)
+{
+    return bits <= INT32_MAX ? (int32_t)bits : -1 - (int32_t)(UINT32_MAX - bits);
+}
+
+static inline uint8_t lufanelis_step_refusal(uint64_t answer) { return (uint8_t)(answer & 0xFF); }
+static inline uint8_t lufanelis_step_kind(uint64_t answer) { return (uint8_t)(answer >> 8 & 0xFF); }
+static inline int32_t lufanelis_step_figure(uint64_t answer) { return lufanelis_figure((uint32_t)(answer >> 32)); }
+
+/* The island of *went*, *adopted*, *decided* and *spent*. */
+static inline uint8_t lufanelis_step_island(uint64_t answer)
+{
+    return lufanelis_step_kind(answer) == LUFANELIS_MARKED ? 0 : (uint8_t)(answer >> 16 & 0xFF);
+}
+
+/* The flag of *marked*. */
+static inline uint8_t lufanelis_step_flag(uint64_t answer)
+{
+    return lufanelis_step_kind(answer) == LUFANELIS_MARKED ? (uint8_t)(answer >> 16 & 0xFF) : 0;
+}
+
+static inline uint8_t lufanelis_standing_refusal(uint64_t answer) { return (uint8_t)(answer & 0xFF); }
+static inline uint8_t lufanelis_standing_kind(uint64_t answer) { return (uint8_t)(answer >> 8 & 0xF); }
+static inline uint8_t lufanelis_standing_island(uint64_t answer) { return (uint8_t)(answer >> 12 & 0xFF); }
+static inline int32_t lufanelis_standing_figure(uint64_t answer) { return lufanelis_figure((uint32_t)(answer >> 32)); }
+
+static inline uint8_t lufanelis_run_refusal(uint64_t answer) { return (uint8_t)(answer & 0xFF); }
+static inline uint32_t lufanelis_run_taken(uint64_t answer) { return (uint32_t)(answer >> 8 & 0xFFFFFF); }
+static inline uint32_t lufanelis_run_passed(uint64_t answer) { return (uint32_t)(answer >> 32 & 0xFFFFFF); }
+
+/* LUFANELIS_NOT_SHOWN has the refusal 255, which is no other answer's, and the length 0. */
+static inline uint8_t lufanelis_show_refusal(uint32_t answer) { return (uint8_t)(answer & 0xFF); }
+static inline size_t lufanelis_show_length(uint32_t answer) { return answer == LUFANELIS_NOT_SHOWN ? 0 : answer >> 16; }
+
+static inline size_t lufanelis_word_start(uint64_t answer) { return (size_t)(answer & 0xFFFFFFFF); }
+static inline size_t lufanelis_word_length(uint64_t answer) { return (size_t)(answer >> 32); }
+
+/* LUFANELIS_NOT_PLAYED has nothing printed and nothing laid: both are 0. The board is then still the one that was laid before,
+ * so test for LUFANELIS_NOT_PLAYED before you go on with this `laid`. */
+static inline size_t lufanelis_played_length(uint64_t answer)
+{
+    return answer == LUFANELIS_NOT_PLAYED ? 0 : (size_t)(answer & 0xFFFF);
+}
+
+static inline size_t lufanelis_played_laid(uint64_t answer)
+{
+    return answer == LUFANELIS_NOT_PLAYED ? 0 : (size_t)(answer >> 16);
+}
 
 #ifdef __cplusplus
 }

@@ -32,8 +32,8 @@ impl Case {
         Case { name: name.to_string(), timed: true, board: board.to_vec(), call }
     }
 
-    pub fn made(&self, engine: &dyn Engine, board: &mut [u8], line: &mut [u8; SHOWN]) -> u64 {
-        match &self.call {
+    pub fn made(&mut self, engine: &dyn Engine, board: &mut [u8], line: &mut [u8; SHOWN]) -> u64 {
+        match &mut self.call {
             Call::Nothing => 0,
             Call::Lay(n, k) => engine.lay(board, *n, *k) as u64,
             Call::Step(station) => engine.step(board, *station),
@@ -75,7 +75,7 @@ fn in_turn(n: u8, count: usize) -> impl Iterator<Item = u8> {
 
 pub fn after(board: &[u8], stations: &[u8]) -> Vec<u8> {
     let mut board = board.to_vec();
-    assert_eq!(Reference.run(&mut board, stations), (stations.len() as u64) << 8, "every step is taken");
+    assert_eq!(Reference.run(&mut board, &mut stations.to_vec()), (stations.len() as u64) << 8, "every step is taken");
     board
 }
 

@@ -68,6 +68,7 @@ fn run(board: &mut [u8], stations: &[u8]) -> Result<u64, u8> {
 
 fn show(board: &[u8], mut line: &mut [u8]) -> Result<usize, u8> {
     let (n, k) = checked(board)?;
+    line.fill(0);
     let room = line.len();
     let text = "512 bytes hold any line";
     line.write_all(b"(stations").expect(text);
@@ -120,7 +121,7 @@ impl Engine for Direct {
         0
     }
 
-    fn check(&self, board: &[u8]) -> u8 {
+    fn check(&self, board: &mut [u8]) -> u8 {
         checked(board).err().unwrap_or(0)
     }
 
@@ -133,24 +134,43 @@ impl Engine for Direct {
         step_on(cells, records, n, k, station)
     }
 
-    fn run(&self, board: &mut [u8], stations: &[u8]) -> u64 {
+    fn standing(&self, board: &mut [u8], station: u8) -> u64 {
+        let (n, k) = match checked(board) {
+            Ok(size) => size,
+            Err(refusal) => return refusal as u64,
+        };
+        let who = (station as usize).wrapping_sub(1);
+        if who >= n {
+            return 12;
+        }
+        let r = &board[records_at(n, k)..][RECORD * who..][..RECORD];
+        let kind = match r[0] {
+            0 => 1,
+            7 => 3,
+            8 => 4,
+            _ => 2,
+        };
+        // An idle station's record is all zero.
+        word(&r[8..16]) >> 32 << 32 | (r[2] as u64) << 12 | kind << 8
+    }
+
+    fn run(&self, board: &mut [u8], stations: &mut [u8]) -> u64 {
         run(board, stations).unwrap_or_else(|refusal| refusal as u64)
     }
 
-    fn show(&self, board: &[u8], line: &mut [u8]) -> u32 {
+    fn show(&self, board: &mut [u8], line: &mut [u8]) -> u32 {
         if line.len() < SHOWN {
             return u32::MAX;
         }
-        line[..SHOWN].fill(0);
         show(board, &mut line[..SHOWN]).map_or_else(|refusal| refusal as u32, |length| (length as u32) << 16)
     }
 
     // Lines of a sheet are not measured here; these two are the other implementation's.
-    fn word(&self, line: &[u8]) -> (u32, u32) {
+    fn word(&self, line: &mut [u8]) -> u64 {
         Reference.word(line)
     }
 
-    fn play_line(&self, line: &[u8], laid: usize, memory: &mut [u8]) -> (Vec<u8>, usize) {
-        Reference.play_line(line, laid, memory)
+    fn play_line(&self, line: &mut [u8], laid: usize, memory: &mut [u8], printed: &mut [u8]) -> u64 {
+        Reference.play_line(line, laid, memory, printed)
     }
 }

@@ -104,7 +104,7 @@ pub fn resized(r: &mut Random, mut board: Vec<u8>) -> Vec<u8> {
         2 => board.len() - 1,
         _ => r.below(board.len() + 40),
     };
-    board.resize(size, 0);
+    board.resize_with(size, || r.byte());
     board
 }
 

@@ -2,7 +2,7 @@
 //! bytes are written only once the values are known.
 
 use crate::bytes::{fields, length, values, Fields};
-use crate::model::{Answer, Station, World};
+use crate::model::{Answer, Standing, World};
 use crate::refusal::Refusal;
 use crate::sound::sound;
 
@@ -84,9 +84,16 @@ pub fn run(board: &mut [u8], stations: &[u8]) -> Result<(usize, usize), Refusal>
     Ok((taken, stations.len() - taken))
 }
 
+/// What `show` says of one station, to that station.
+pub fn standing(board: &[u8], station: u8) -> Result<Standing, Refusal> {
+    let world = opened(board)?;
+    let who = world.place(station)?;
+    Ok(world.stations[who].standing())
+}
+
 pub fn show(board: &[u8]) -> Result<String, Refusal> {
     let world = opened(board)?;
-    let shown: Vec<String> = world.stations.iter().enumerate().map(|(who, s)| shown(who + 1, s)).collect();
+    let shown: Vec<String> = world.stations.iter().enumerate().map(|(who, s)| shown(who + 1, s.standing())).collect();
     let line = format!("(stations {})", shown.join(" "));
     if line.len() > LONGEST_SHOW {
         return Err(Refusal::ShowTooLong);
@@ -94,13 +101,11 @@ pub fn show(board: &[u8]) -> Result<String, Refusal> {
     Ok(line)
 }
 
-fn shown(number: usize, station: &Station) -> String {
-    let (word, life) = match station {
-        Station::Idle => return format!("({number} idle)"),
-        Station::Decided(l) => ("decided", l),
-        Station::Spent(l) => ("spent", l),
-        Station::WriteM(l) | Station::WriteA(l) | Station::WriteB(l, _) => ("going", l),
-        Station::ReadM(l, _) | Station::ReadA(l, _) | Station::ReadB(l, _, _) => ("going", l),
-    };
-    format!("({number} {word} {} {})", life.island, life.carried)
+fn shown(number: usize, standing: Standing) -> String {
+    match standing {
+        Standing::Idle => format!("({number} idle)"),
+        Standing::Going(c, v) => format!("({number} going {c} {v})"),
+        Standing::Decided(c, v) => format!("({number} decided {c} {v})"),
+        Standing::Spent(c, v) => format!("({number} spent {c} {v})"),
+    }
 }

@@ -3,30 +3,31 @@
 
 use crate::bytes::mark_byte;
 use crate::calls;
-use crate::model::Answer;
+use crate::model::{Answer, Standing};
 use crate::refusal::Refusal;
 use crate::sheet;
 
 pub const SHOWN: usize = calls::LONGEST_SHOW;
 
-/// Room for a printed line of 512 bytes, and some more that must stay as it was.
-pub const PRINTED: usize = 520;
-
+/// Every buffer is lent so that it could be written, also where a call may only read it: whoever writes there is found.
 pub trait Engine {
     /// 0 or the refusal's number.
     fn lay(&self, board: &mut [u8], n: u8, k: u8) -> u8;
     fn propose(&self, board: &mut [u8], station: u8, figure: i32) -> u8;
-    fn check(&self, board: &[u8]) -> u8;
+    fn check(&self, board: &mut [u8]) -> u8;
     /// Bits 0–7 refusal, 8–15 kind, 16–23 island or flag, 32–63 figure.
     fn step(&self, board: &mut [u8], station: u8) -> u64;
+    /// Bits 0–7 refusal, 8–11 how the station stands, 12–19 island, 32–63 figure.
+    fn standing(&self, board: &mut [u8], station: u8) -> u64;
     /// Bits 0–7 refusal, 8–31 taken, 32–55 passed over.
-    fn run(&self, board: &mut [u8], stations: &[u8]) -> u64;
-    /// Bits 0–7 refusal, 16–31 length; the line has zeros after its end.
-    fn show(&self, board: &[u8], line: &mut [u8]) -> u32;
-    /// Where the word starts and its length; both are 0 with no word.
-    fn word(&self, line: &[u8]) -> (u32, u32);
-    /// What is printed, without its LF, and how much is laid afterwards.
-    fn play_line(&self, line: &[u8], laid: usize, memory: &mut [u8]) -> (Vec<u8>, usize);
+    fn run(&self, board: &mut [u8], stations: &mut [u8]) -> u64;
+    /// Bits 0–7 refusal, 16–31 length; the line has zeros after its end. All bits are 1 where it has no room.
+    fn show(&self, board: &mut [u8], line: &mut [u8]) -> u32;
+    /// Bits 0–31 where the word starts, 32–63 its length; 0 with no word.
+    fn word(&self, line: &mut [u8]) -> u64;
+    /// Bits 0–15 the length of what is printed, without its LF, 16–63 how much is laid afterwards; what is printed has
+    /// zeros after its end. All bits are 1 where it has no room or `laid` has more than 32 bits.
+    fn play_line(&self, line: &mut [u8], laid: usize, memory: &mut [u8], printed: &mut [u8]) -> u64;
 }
 
 pub struct Reference;
@@ -51,6 +52,24 @@ fn packed_answer(answer: Answer) -> u64 {
     }
 }
 
+fn packed_standing(standing: Standing) -> u64 {
+    let packed =
+        |kind: u64, island: u8, figure: i64| kind << 8 | (island as u64) << 12 | (figure as i32 as u32 as u64) << 32;
+    match standing {
+        Standing::Idle => packed(1, 0, 0),
+        Standing::Going(c, v) => packed(2, c, v),
+        Standing::Decided(c, v) => packed(3, c, v),
+        Standing::Spent(c, v) => packed(4, c, v),
+    }
+}
+
+/// "512 bytes, zeros after the line"; the bytes behind them stay.
+fn handed(text: &str, buffer: &mut [u8]) {
+    let (line, zeros) = buffer[..SHOWN].split_at_mut(text.len());
+    line.copy_from_slice(text.as_bytes());
+    zeros.fill(0);
+}
+
 impl Engine for Reference {
     fn lay(&self, board: &mut [u8], n: u8, k: u8) -> u8 {
         number(calls::lay(board, n, k))
@@ -60,7 +79,7 @@ impl Engine for Reference {
         number(calls::propose(board, station, figure))
     }
 
-    fn check(&self, board: &[u8]) -> u8 {
+    fn check(&self, board: &mut [u8]) -> u8 {
         number(calls::check(board))
     }
 
@@ -68,35 +87,46 @@ impl Engine for Reference {
         calls::step(board, station).map_or_else(|r| r.number() as u64, packed_answer)
     }
 
-    fn run(&self, board: &mut [u8], stations: &[u8]) -> u64 {
+    fn standing(&self, board: &mut [u8], station: u8) -> u64 {
+        calls::standing(board, station).map_or_else(|r| r.number() as u64, packed_standing)
+    }
+
+    fn run(&self, board: &mut [u8], stations: &mut [u8]) -> u64 {
         match calls::run(board, stations) {
             Ok((taken, passed)) => (taken as u64) << 8 | (passed as u64) << 32,
             Err(refusal) => refusal.number() as u64,
         }
     }
 
-    fn show(&self, board: &[u8], line: &mut [u8]) -> u32 {
+    fn show(&self, board: &mut [u8], line: &mut [u8]) -> u32 {
         if line.len() < SHOWN {
             return u32::MAX;
         }
-        line[..SHOWN].fill(0);
         match calls::show(board) {
             Ok(text) => {
-                line[..text.len()].copy_from_slice(text.as_bytes());
+                handed(&text, line);
                 (text.len() as u32) << 16
             }
             Err(refusal) => refusal.number() as u32,
         }
     }
 
-    fn word(&self, line: &[u8]) -> (u32, u32) {
+    fn word(&self, line: &mut [u8]) -> u64 {
         let (start, length) = sheet::word(line);
-        if length == 0 { (0, 0) } else { (start as u32, length as u32) }
+        if length == 0 {
+            0
+        } else {
+            start as u64 | (length as u64) << 32
+        }
     }
 
-    fn play_line(&self, line: &[u8], laid: usize, memory: &mut [u8]) -> (Vec<u8>, usize) {
-        let (printed, laid) = sheet::play_line(line, laid, memory);
-        (printed.into_bytes(), laid)
+    fn play_line(&self, line: &mut [u8], laid: usize, memory: &mut [u8], printed: &mut [u8]) -> u64 {
+        if printed.len() < SHOWN || laid > u32::MAX as usize {
+            return u64::MAX;
+        }
+        let (text, after) = sheet::play_line(line, laid, memory);
+        handed(&text, printed);
+        text.len() as u64 | (after as u64) << 16
     }
 }
 
@@ -105,16 +135,14 @@ pub use linked::Linked;
 
 #[cfg(feature = "engine")]
 mod linked {
-    use super::{Engine, PRINTED};
-
-    /// What the buffer holds where nothing may be written.
-    const UNTOUCHED: u8 = 0xA5;
+    use super::Engine;
 
     extern "C" {
         fn lufanelis_lay(board: *mut u8, length: usize, n: u8, k: u8) -> u8;
         fn lufanelis_propose(board: *mut u8, length: usize, station: u8, figure: i32) -> u8;
         fn lufanelis_check(board: *const u8, length: usize) -> u8;
         fn lufanelis_step(board: *mut u8, length: usize, station: u8) -> u64;
+        fn lufanelis_standing(board: *const u8, length: usize, station: u8) -> u64;
         fn lufanelis_run(board: *mut u8, length: usize, stations: *const u8, count: usize) -> u64;
         fn lufanelis_show(board: *const u8, length: usize, line: *mut u8, room: usize) -> u32;
         fn lufanelis_word(line: *const u8, length: usize) -> u64;
@@ -141,41 +169,34 @@ mod linked {
             unsafe { lufanelis_propose(board.as_mut_ptr(), board.len(), station, figure) }
         }
 
-        fn check(&self, board: &[u8]) -> u8 {
-            unsafe { lufanelis_check(board.as_ptr(), board.len()) }
+        fn check(&self, board: &mut [u8]) -> u8 {
+            unsafe { lufanelis_check(board.as_mut_ptr(), board.len()) }
         }
 
         fn step(&self, board: &mut [u8], station: u8) -> u64 {
             unsafe { lufanelis_step(board.as_mut_ptr(), board.len(), station) }
         }
 
-        fn run(&self, board: &mut [u8], stations: &[u8]) -> u64 {
-            unsafe { lufanelis_run(board.as_mut_ptr(), board.len(), stations.as_ptr(), stations.len()) }
+        fn standing(&self, board: &mut [u8], station: u8) -> u64 {
+            unsafe { lufanelis_standing(board.as_mut_ptr(), board.len(), station) }
         }
 
-        fn show(&self, board: &[u8], line: &mut [u8]) -> u32 {
-            unsafe { lufanelis_show(board.as_ptr(), board.len(), line.as_mut_ptr(), line.len()) }
+        fn run(&self, board: &mut [u8], stations: &mut [u8]) -> u64 {
+            unsafe { lufanelis_run(board.as_mut_ptr(), board.len(), stations.as_mut_ptr(), stations.len()) }
         }
 
-        fn word(&self, line: &[u8]) -> (u32, u32) {
-            let packed = unsafe { lufanelis_word(line.as_ptr(), line.len()) };
-            (packed as u32, (packed >> 32) as u32)
+        fn show(&self, board: &mut [u8], line: &mut [u8]) -> u32 {
+            unsafe { lufanelis_show(board.as_mut_ptr(), board.len(), line.as_mut_ptr(), line.len()) }
         }
 
-        fn play_line(&self, line: &[u8], laid: usize, memory: &mut [u8]) -> (Vec<u8>, usize) {
-            let mut printed = vec![UNTOUCHED; PRINTED];
-            let packed = unsafe {
-                let (out, room) = (printed.as_mut_ptr(), printed.len());
-                lufanelis_play_line(line.as_ptr(), line.len(), laid, memory.as_mut_ptr(), memory.len(), out, room)
-            };
-            let length = packed as u16 as usize;
-            let kept = printed[512..].iter().all(|b| *b == UNTOUCHED);
-            let zeros = printed.get(length..512).is_some_and(|rest| rest.iter().all(|b| *b == 0));
-            printed.truncate(length);
-            if !kept || !zeros {
-                printed.extend(b" and bytes that are not zeros, or behind the 512");
-            }
-            (printed, (packed >> 16) as usize)
+        fn word(&self, line: &mut [u8]) -> u64 {
+            unsafe { lufanelis_word(line.as_mut_ptr(), line.len()) }
+        }
+
+        fn play_line(&self, line: &mut [u8], laid: usize, memory: &mut [u8], printed: &mut [u8]) -> u64 {
+            let (text, length) = (line.as_mut_ptr(), line.len());
+            let (out, room) = (printed.as_mut_ptr(), printed.len());
+            unsafe { lufanelis_play_line(text, length, laid, memory.as_mut_ptr(), memory.len(), out, room) }
         }
     }
 }

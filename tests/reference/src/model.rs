@@ -53,6 +53,29 @@ pub enum Station {
     Spent(Life),
 }
 
+/// "`(i idle)`, `(i going c v)`, `(i decided c v)` or `(i spent c v)`, v the carried figure; phases 1 to 6 are going."
+#[derive(Clone, Copy, PartialEq, Eq, Debug)]
+pub enum Standing {
+    Idle,
+    Going(u8, Figure),
+    Decided(u8, Figure),
+    Spent(u8, Figure),
+}
+
+impl Station {
+    pub fn standing(&self) -> Standing {
+        match self {
+            Station::Idle => Standing::Idle,
+            Station::Decided(l) => Standing::Decided(l.island, l.carried),
+            Station::Spent(l) => Standing::Spent(l.island, l.carried),
+            Station::WriteM(l) | Station::WriteA(l) | Station::WriteB(l, _) => Standing::Going(l.island, l.carried),
+            Station::ReadM(l, _) | Station::ReadA(l, _) | Station::ReadB(l, _, _) => {
+                Standing::Going(l.island, l.carried)
+            }
+        }
+    }
+}
+
 /// "It answers with its kind and fields."
 #[derive(Clone, Copy, PartialEq, Eq, Debug)]
 pub enum Answer {

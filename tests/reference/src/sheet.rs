@@ -148,8 +148,8 @@ pub fn word(line: &[u8]) -> (usize, usize) {
     }
 }
 
-/// Plays a line on lent memory of which the first `laid` bytes are the board; with 0 there is none yet. Answers what
-/// is printed, without its LF, and how much is laid afterwards.
+/// Plays a line on lent memory of which the first `laid` bytes are the board, all of it where it has fewer; with 0 there
+/// is none yet. Answers what is printed, without its LF, and how much is laid afterwards.
 pub fn play_line(line: &[u8], laid: usize, memory: &mut [u8]) -> (String, usize) {
     match accepted(line, laid, memory) {
         Ok(done) => done,
@@ -168,7 +168,8 @@ fn accepted(line: &[u8], laid: usize, memory: &mut [u8]) -> Result<(String, usiz
     if laid == 0 {
         return Err(Refusal::NoBoardYet);
     }
-    Ok((called(form, &mut memory[..laid])?, laid))
+    let whole = memory.len();
+    Ok((called(form, &mut memory[..laid.min(whole)])?, laid))
 }
 
 fn called(form: Form, board: &mut [u8]) -> Result<String, Refusal> {

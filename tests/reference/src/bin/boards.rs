@@ -1,12 +1,12 @@
-//! boards COUNT SEED: every call of the linked engine beside the reference, on made boards. A count of 0 goes on for
-//! ever, with a line per thousand rounds.
+//! boards COUNT SEED: every call of the linked engine beside the reference, on made boards, and every byte that it was
+//! lent. A count of 0 goes on for ever, with a line per thousand rounds.
 
 use reference::compare::Compare;
 use reference::engine::Linked;
 
 fn print(compare: &Compare) {
     let c = &compare.counts;
-    println!("{} calls, {} lines, {} words compared", c.calls, c.lines, c.words);
+    println!("{} calls, {} of them standings; {} lines, {} words compared", c.calls, c.standings, c.lines, c.words);
     println!("steps compared: {} single, {} in runs", c.single_steps, c.run_steps);
     let by: Vec<String> = (7..18).map(|r| format!("{r}: {}", c.refusals[r])).collect();
     println!("accepted {}; refused 6: {}, {}", c.refusals[0], c.refusals[6], by.join(", "));

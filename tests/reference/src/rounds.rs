@@ -1,0 +1,285 @@
+//! Which calls are compared: every kind of call on fresh, reached, sound, damaged and hostile boards, lists of calls,
+//! long runs, and the lines of sheets.
+
+use crate::boards;
+use crate::bytes::length;
+use crate::compare::{Call, Compare};
+use crate::engine::SHOWN;
+use crate::lent::{pattern, Lent};
+use crate::lists;
+use crate::random::Random;
+use crate::reach;
+use crate::{sheet, sheets};
+
+/// Room for a line that is handed back: enough, too little, and more.
+const ROOMS: [usize; 6] = [SHOWN, SHOWN - 1, SHOWN + 1, SHOWN + 90, 1, 0];
+
+impl Compare<'_> {
+    /// Every kind of call, each on the board as it is.
+    pub fn every_call(&mut self, seed: u64, r: &mut Random, board: &[u8]) {
+        let n = board.first().copied().unwrap_or(1).min(17);
+        for room in ROOMS {
+            self.once(seed, Call::Show(room), board);
+        }
+        self.once(seed, Call::Check, board);
+        let any = r.byte();
+        for station in (0..=n + 1).chain([any]) {
+            self.once(seed, Call::Step(station), board);
+            self.once(seed, Call::Propose(station, r.figure()), board);
+        }
+        self.standings(seed, r, n, board);
+        let stations = stations(r, n, 40);
+        self.once(seed, Call::Run(&stations), board);
+        self.once(seed, Call::Run(&[]), board);
+        let sizes = [(n, board.get(1).copied().unwrap_or(2)), r.size(), (r.byte(), r.byte()), (any % 19, any % 67)];
+        for (n, k) in sizes {
+            self.once(seed, Call::Lay(n, k), board);
+        }
+    }
+
+    /// How each station stands, and on some boards every number that is no station.
+    fn standings(&mut self, seed: u64, r: &mut Random, n: u8, board: &[u8]) {
+        let last = if r.once_in(8) { 255 } else { n + 1 };
+        for station in (0..=last).chain([r.byte()]) {
+            self.once(seed, Call::Standing(station), board);
+        }
+    }
+
+    /// A list of single calls from a fresh board, both copies driven on.
+    pub fn driven(&mut self, seed: u64) {
+        let list = lists::make(seed);
+        let mut r = Random::new(seed);
+        let (mut ours, mut theirs) = self.laid(seed, list.n, list.k);
+        let mut done = [false; 256];
+        for call in &list.calls {
+            match *call {
+                lists::Call::Lay(n, k) => self.call(seed, Call::Lay(n, k), &mut ours, &mut theirs),
+                lists::Call::Propose(i, v) => self.call(seed, Call::Propose(i, v), &mut ours, &mut theirs),
+                // A station that has ended refuses all its further steps; a few of them are enough.
+                lists::Call::Step(i) if done[i as usize] && !r.once_in(16) => 0,
+                lists::Call::Step(i) => {
+                    let answer = self.call(seed, Call::Step(i), &mut ours, &mut theirs);
+                    done[i as usize] = matches!(answer & 0xFF, 15 | 16);
+                    self.call(seed, Call::Standing(i), &mut ours, &mut theirs)
+                }
+            };
+        }
+        self.call(seed, Call::Show(SHOWN), &mut ours, &mut theirs);
+    }
+
+    /// A board laid over bytes of any content.
+    fn laid(&mut self, seed: u64, n: u8, k: u8) -> (Lent, Lent) {
+        let content = pattern(&mut self.patterns, length(n, k));
+        let (mut ours, mut theirs) = self.copies(&content);
+        self.call(seed, Call::Lay(n, k), &mut ours, &mut theirs);
+        (ours, theirs)
+    }
+
+    /// A list from a fresh board, its steps put together to runs.
+    pub fn listed_runs(&mut self, seed: u64) {
+        let list = lists::make(seed);
+        let (mut ours, mut theirs) = self.laid(seed, list.n, list.k);
+        let step = |call: &lists::Call| matches!(call, lists::Call::Step(_));
+        for group in list.calls.chunk_by(|a, b| step(a) && step(b)) {
+            match group[0] {
+                lists::Call::Lay(n, k) => self.call(seed, Call::Lay(n, k), &mut ours, &mut theirs),
+                lists::Call::Propose(i, v) => self.call(seed, Call::Propose(i, v), &mut ours, &mut theirs),
+                lists::Call::Step(_) => {
+                    let number = |call: &lists::Call| if let lists::Call::Step(i) = call { *i } else { 0 };
+                    let stations: Vec<u8> = group.iter().map(number).collect();
+                    self.call(seed, Call::Run(&stations), &mut ours, &mut theirs)
+                }
+            };
+        }
+    }
+
+    /// Whole runs: from a fresh board on which all propose, or from a sound one.
+    pub fn runs(&mut self, seed: u64) {
+        let mut r = Random::new(seed);
+        let (n, k) = r.size();
+        let fresh = r.once_in(2);
+        let (mut ours, mut theirs) =
+            if fresh { self.laid(seed, n, k) } else { self.copies(&boards::sound(&mut r, n, k)) };
+        for i in 1..=if fresh { n } else { 0 } {
+            self.call(seed, Call::Propose(i, r.figure()), &mut ours, &mut theirs);
+        }
+        for _ in 0..r.between(1, 12) {
+            let stations = stations(&mut r, n, 60 * n as usize);
+            self.call(seed, Call::Run(&stations), &mut ours, &mut theirs);
+        }
+    }
+
+    /// Runs at the most steps that are allowed, and one above.
+    pub fn longest_runs(&mut self, seed: u64) {
+        let mut r = Random::new(seed);
+        let (n, k) = r.size();
+        let board = boards::sound(&mut r, n, k);
+        let list: Vec<u8> = (0..65_537).map(|_| r.between(1, n as usize) as u8).collect();
+        self.once(seed, Call::Run(&list[..65_536]), &board);
+        self.once(seed, Call::Run(&list), &board);
+        self.once(seed, Call::Run(&list), &board[..7]);
+    }
+
+    /// A sound board that no run need reach, then driven on by single steps.
+    pub fn sound_board(&mut self, seed: u64) {
+        let mut r = Random::new(seed);
+        let (n, k) = if r.once_in(30) { r.size() } else { (r.between(1, 5) as u8, r.between(2, 4) as u8) };
+        let board = boards::sound(&mut r, n, k);
+        self.every_call(seed, &mut r, &board);
+        let (mut ours, mut theirs) = self.copies(&board);
+        for station in stations(&mut r, n, 60) {
+            self.call(seed, Call::Step(station), &mut ours, &mut theirs);
+        }
+    }
+
+    pub fn damaged_board(&mut self, seed: u64) {
+        let mut r = Random::new(seed);
+        let (n, k) = (r.between(1, 4) as u8, r.between(2, 4) as u8);
+        let board = boards::sound(&mut r, n, k);
+        let board = match r.below(5) {
+            0 => boards::resized(&mut r, board),
+            1 => boards::hostile(&mut r),
+            _ => boards::damaged(&mut r, board),
+        };
+        self.every_call(seed, &mut r, &board);
+    }
+
+    /// Each byte of a small board in turn, to every other value.
+    pub fn each_byte(&mut self, seed: u64) {
+        let mut r = Random::new(seed);
+        let (n, k) = (r.between(1, 2) as u8, 2);
+        let mut board = boards::sound(&mut r, n, k);
+        for at in 0..board.len() {
+            let kept = board[at];
+            for value in (0..=255).filter(|v| *v != kept) {
+                board[at] = value;
+                let station = r.between(1, n as usize) as u8;
+                for call in [Call::Check, Call::Step(station), Call::Standing(station), Call::Show(SHOWN)] {
+                    self.once(seed, call, &board);
+                }
+            }
+            board[at] = kept;
+        }
+        for size in 0..=board.len() + 2 {
+            let mut other = board.clone();
+            other.resize(size, 170);
+            for call in [Call::Check, Call::Standing(1), Call::Show(SHOWN), Call::Lay(n, k)] {
+                self.once(seed, call, &other);
+            }
+        }
+    }
+
+    /// A sheet, line by line on two memories of which every byte is compared. Some memories are too short for a board of
+    /// the sheet. In some sheets the memory comes to harm between lines, or another length is said to be laid.
+    pub fn lines(&mut self, seed: u64) {
+        let mut r = Random::new(seed);
+        let sheet = sheets::sheet(seed);
+        let largest = length(16, 64);
+        let size = if r.once_in(3) { r.pick(&[0, 7, 8, 199, 200, 1000, largest - 1]) } else { largest + r.below(20) };
+        let (mut ours, mut theirs) = self.copies(&pattern(&mut r, size));
+        let mut laid = 0;
+        let harm = size > 0 && r.once_in(3);
+        for line in sheet::lines(&sheet) {
+            if harm && laid > 0 && r.once_in(10) {
+                ours.bytes_mut()[r.below(laid.min(size))] = r.below(4) as u8;
+                laid = if r.once_in(3) { r.below(size + 1) } else { laid };
+                theirs.become_like(&ours);
+            }
+            let line = with_line_feed(&mut r, line);
+            let room = if r.once_in(6) { r.pick(&ROOMS) } else { SHOWN };
+            let answer = self.call(seed, Call::Line(&line, laid, room), &mut ours, &mut theirs);
+            laid = if answer == u64::MAX { laid } else { (answer >> 16) as usize };
+            self.once(seed, Call::Word(&line), &[]);
+        }
+    }
+
+    /// A memory that is one board, sound or not, and more said to be laid than it has.
+    pub fn much_laid(&mut self, seed: u64) {
+        let mut r = Random::new(seed);
+        let (n, k) = (r.between(1, 4) as u8, r.between(2, 4) as u8);
+        let board = boards::sound(&mut r, n, k);
+        let board = if r.once_in(2) { boards::resized(&mut r, board) } else { board };
+        let size = board.len();
+        let most = u32::MAX as usize;
+        let propose = format!("(propose {} {})", r.between(0, n as usize + 1), r.figure());
+        let lay = format!("(board {n} {k})");
+        for line in ["(show)", &propose, "(steps (times 9 1 2 3))", "(steps (times 65537 1))", &lay, "(show)\n", "show"]
+        {
+            for laid in [0, 1, size / 2, size, size + 1, size + 4096, most, most + 1, usize::MAX] {
+                self.once(seed, Call::Line(line.as_bytes(), laid, SHOWN), &board);
+            }
+        }
+    }
+
+    pub fn words(&mut self, seed: u64) {
+        let mut r = Random::new(seed);
+        for word in ["board", "propose", "steps", "show", "times", "", "sho", "shows", "boar", "boards"] {
+            for end in ["", " ", ")", "(", "\t", "\n", "x", " 1 2)", "((((((((((((", ")))", "\0"] {
+                for start in ["(", "", "((", " (", "( ", "\n("] {
+                    self.once(seed, Call::Word(format!("{start}{word}{end}").as_bytes()), &[]);
+                }
+            }
+            let line = sheets::spoilt(&mut r, format!("({word} 1 2)").into_bytes());
+            self.once(seed, Call::Word(&line), &[]);
+            self.once(seed, Call::Word(&line.repeat(40)), &[]);
+        }
+    }
+
+    /// Every call on every board that a small laying can come to.
+    pub fn reached(&mut self, k: u8, figures: &[i32]) {
+        for board in reach::every_board(k, figures) {
+            for station in 0..=figures.len() as u8 + 1 {
+                self.once(0, Call::Step(station), &board);
+                self.once(0, Call::Standing(station), &board);
+                self.once(0, Call::Propose(station, 1), &board);
+            }
+            self.once(0, Call::Check, &board);
+            self.once(0, Call::Show(SHOWN), &board);
+        }
+    }
+
+    /// One round of everything. It follows from its seed alone, the bytes around every buffer included.
+    pub fn round(&mut self, seed: u64) {
+        self.patterns = Random::new(!seed);
+        self.driven(seed);
+        for part in 0..8 {
+            self.listed_runs(seed.wrapping_mul(64) + part);
+            self.runs(seed.wrapping_mul(64) + part);
+        }
+        for part in 0..6 {
+            self.sound_board(seed.wrapping_mul(64) + part);
+            self.damaged_board(seed.wrapping_mul(64) + 32 + part);
+        }
+        if seed % 16 == 0 {
+            self.lines(seed);
+            self.much_laid(seed);
+            self.words(seed);
+        }
+        if seed % 256 == 0 {
+            self.each_byte(seed);
+            self.longest_runs(seed);
+        }
+    }
+}
+
+/// Some lines are lent with a line feed in them, which no sheet's line has.
+fn with_line_feed(r: &mut Random, line: &[u8]) -> Vec<u8> {
+    let mut line = line.to_vec();
+    if r.once_in(12) {
+        line.insert(r.pick(&[0, line.len() / 2, line.len()]), b'\n');
+    }
+    line
+}
+
+/// Bursts of single stations, now and then one that is not there.
+fn stations(r: &mut Random, n: u8, most: usize) -> Vec<u8> {
+    let mut out = Vec::new();
+    let size = r.below(most + 1);
+    while out.len() < size {
+        let station = if r.once_in(30) { r.pick(&[0, n + 1, 99, 255]) } else { r.between(1, n.max(1) as usize) as u8 };
+        let count = r.pick(&[1, 1, 2, 3, n as usize + 1, 2 * n as usize + 2]);
+        out.extend(std::iter::repeat_n(station, count));
+    }
+    out.truncate(size);
+    out
+}
