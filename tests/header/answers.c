@@ -1,0 +1,230 @@
+/* Tries the functions of include/lufanelis.h that take an answer apart: on both ends of each part with the other parts empty
+ * or full, and on answers of the calls themselves. One source for C99 and for C++.
+ * Relies on the header and the archive; tests/compare runs it. Tells what does not hold, and last 'N passed, M failed'. */
+#include <stdio.h>
+#include <string.h>
+
+#include "lufanelis.h"
+
+static unsigned passed, failed;
+
+static void told(int line, const char *what, int holds)
+{
+    if (holds) {
+        passed++;
+        return;
+    }
+    failed++;
+    printf("line %d: not so: %s\n", line, what);
+}
+
+#define HOLDS(what) told(__LINE__, #what, (what))
+
+/* A part alone at its highest, and all other parts at theirs beside an empty one. */
+#define PART(function, mask, highest)        \
+    do {                                     \
+        HOLDS(function(mask) == (highest));  \
+        HOLDS(function(~(mask)) == 0);       \
+        HOLDS(function(0) == 0);             \
+    } while (0)
+
+#define BITS(from, count) ((UINT64_C(0xFFFFFFFFFFFFFFFF) >> (64 - (count))) << (from))
+
+static void figures(void)
+{
+    HOLDS(lufanelis_figure(0) == 0);
+    HOLDS(lufanelis_figure(1) == 1);
+    HOLDS(lufanelis_figure(UINT32_C(0x7FFFFFFE)) == INT32_MAX - 1);
+    HOLDS(lufanelis_figure(UINT32_C(0x7FFFFFFF)) == INT32_MAX);
+    HOLDS(lufanelis_figure(UINT32_C(0x80000000)) == INT32_MIN);
+    HOLDS(lufanelis_figure(UINT32_C(0x80000001)) == INT32_MIN + 1);
+    HOLDS(lufanelis_figure(UINT32_C(0xFFFFFFFE)) == -2);
+    HOLDS(lufanelis_figure(UINT32_C(0xFFFFFFFF)) == -1);
+}
+
+static void parts(void)
+{
+    const uint64_t marked = (uint64_t)LUFANELIS_MARKED << 8;
+
+    PART(lufanelis_step_refusal, BITS(0, 8), 255);
+    PART(lufanelis_step_kind, BITS(8, 8), 255);
+    PART(lufanelis_step_island, BITS(16, 8), 255);
+    PART(lufanelis_step_figure, BITS(32, 32), -1);
+    HOLDS(lufanelis_step_island(BITS(16, 8) | marked) == 0);
+    HOLDS(lufanelis_step_flag(BITS(16, 8) | marked) == 255);
+    HOLDS(lufanelis_step_flag(BITS(16, 8)) == 0);
+    HOLDS(lufanelis_step_flag((~BITS(16, 8) & ~BITS(8, 8)) | marked) == 0);
+    PART(lufanelis_standing_refusal, BITS(0, 8), 255);
+    PART(lufanelis_standing_kind, BITS(8, 4), 15);
+    PART(lufanelis_standing_island, BITS(12, 8), 255);
+    PART(lufanelis_standing_figure, BITS(32, 32), -1);
+    PART(lufanelis_run_refusal, BITS(0, 8), 255);
+    PART(lufanelis_run_taken, BITS(8, 24), 16777215);
+    PART(lufanelis_run_passed, BITS(32, 24), 16777215);
+    PART(lufanelis_show_refusal, UINT32_C(0xFF), 255);
+    PART(lufanelis_show_length, UINT32_C(0xFFFF0000), 65535);
+    PART(lufanelis_word_start, BITS(0, 32), 4294967295U);
+    PART(lufanelis_word_length, BITS(32, 32), 4294967295U);
+    PART(lufanelis_played_length, BITS(0, 16), 65535);
+    PART(lufanelis_played_laid, BITS(16, 48), BITS(0, 48));
+    HOLDS(lufanelis_show_refusal(LUFANELIS_NOT_SHOWN) == 255);
+    HOLDS(lufanelis_show_length(LUFANELIS_NOT_SHOWN) == 0);
+    HOLDS(lufanelis_played_length(LUFANELIS_NOT_PLAYED) == 0);
+    HOLDS(lufanelis_played_laid(LUFANELIS_NOT_PLAYED) == 0);
+}
+
+static uint8_t board[LUFANELIS_BOARD_LENGTH(2, 2)];
+
+static uint64_t step(uint8_t station) { return lufanelis_step(board, sizeof board, station); }
+
+static int steps(uint64_t answer, uint8_t kind, uint8_t island, uint8_t flag, int32_t figure)
+{
+    return lufanelis_step_refusal(answer) == LUFANELIS_ACCEPTED && lufanelis_step_kind(answer) == kind &&
+           lufanelis_step_island(answer) == island && lufanelis_step_flag(answer) == flag &&
+           lufanelis_step_figure(answer) == figure;
+}
+
+static int stands(uint8_t station, uint8_t kind, uint8_t island, int32_t figure)
+{
+    uint64_t answer = lufanelis_standing(board, sizeof board, station);
+
+    return lufanelis_standing_refusal(answer) == LUFANELIS_ACCEPTED && lufanelis_standing_kind(answer) == kind &&
+           lufanelis_standing_island(answer) == island && lufanelis_standing_figure(answer) == figure;
+}
+
+/* A station alone: every step to its decision. */
+static void alone(int32_t figure)
+{
+    HOLDS(lufanelis_lay(board, sizeof board, 2, 2) == LUFANELIS_ACCEPTED);
+    HOLDS(stands(1, LUFANELIS_STANDS_IDLE, 0, 0));
+    HOLDS(lufanelis_step_refusal(step(1)) == LUFANELIS_IDLE && lufanelis_step_kind(step(1)) == 0);
+    HOLDS(lufanelis_propose(board, sizeof board, 1, figure) == LUFANELIS_ACCEPTED);
+    HOLDS(stands(1, LUFANELIS_STANDS_GOING, 0, figure));
+    HOLDS(steps(step(1), LUFANELIS_WROTE, 0, 0, 0));
+    HOLDS(steps(step(1), LUFANELIS_READ, 0, 0, 0));
+    HOLDS(steps(step(1), LUFANELIS_WENT, 0, 0, figure));
+    HOLDS(steps(step(1), LUFANELIS_WROTE, 0, 0, 0));
+    HOLDS(steps(step(1), LUFANELIS_READ, 0, 0, 0));
+    HOLDS(steps(step(1), LUFANELIS_MARKED, 0, LUFANELIS_COMMIT, figure));
+    HOLDS(steps(step(1), LUFANELIS_WROTE, 0, 0, 0));
+    HOLDS(stands(1, LUFANELIS_STANDS_GOING, 0, figure));
+    HOLDS(steps(step(1), LUFANELIS_READ, 0, 0, 0));
+    HOLDS(steps(step(1), LUFANELIS_DECIDED, 0, 0, figure));
+    HOLDS(stands(1, LUFANELIS_STANDS_DECIDED, 0, figure));
+    HOLDS(stands(2, LUFANELIS_STANDS_IDLE, 0, 0));
+    HOLDS(lufanelis_step_refusal(step(1)) == LUFANELIS_HAS_DECIDED);
+    HOLDS(lufanelis_standing_refusal(lufanelis_standing(board, sizeof board, 0)) == LUFANELIS_NO_SUCH_STATION);
+    HOLDS(lufanelis_standing_refusal(lufanelis_standing(board, sizeof board, 3)) == LUFANELIS_NO_SUCH_STATION);
+    HOLDS(lufanelis_standing_refusal(lufanelis_standing(board, sizeof board - 1, 1)) == LUFANELIS_BAD_BOARD_LENGTH);
+}
+
+/* Two stations that circle until they are spent; the last step of each island is looked at. */
+static void circling(void)
+{
+    static const uint8_t island[] = {2, 2, 2, 1, 1, 1, 2, 2, 2, 1, 1, 1, 1, 1, 1, 2, 2};
+    uint64_t ran;
+
+    HOLDS(lufanelis_lay(board, sizeof board, 2, 2) == LUFANELIS_ACCEPTED);
+    HOLDS(lufanelis_propose(board, sizeof board, 1, 7) == LUFANELIS_ACCEPTED);
+    HOLDS(lufanelis_propose(board, sizeof board, 2, 3) == LUFANELIS_ACCEPTED);
+    ran = lufanelis_run(board, sizeof board, island, sizeof island);
+    HOLDS(lufanelis_run_refusal(ran) == LUFANELIS_ACCEPTED);
+    HOLDS(lufanelis_run_taken(ran) == sizeof island && lufanelis_run_passed(ran) == 0);
+    HOLDS(stands(1, LUFANELIS_STANDS_GOING, 1, 7));
+    HOLDS(steps(step(2), LUFANELIS_ADOPTED, 1, 0, 3));
+    lufanelis_run(board, sizeof board, island, sizeof island);
+    HOLDS(stands(1, LUFANELIS_STANDS_SPENT, 1, 7));
+    HOLDS(steps(step(2), LUFANELIS_SPENT, 1, 0, 3));
+    HOLDS(stands(2, LUFANELIS_STANDS_SPENT, 1, 3));
+    HOLDS(lufanelis_step_refusal(step(2)) == LUFANELIS_IS_SPENT);
+}
+
+static void runs(void)
+{
+    static uint8_t stations[65537];
+    uint64_t ran = lufanelis_run(board, sizeof board, stations, 65536);
+
+    HOLDS(lufanelis_run_refusal(ran) == LUFANELIS_ACCEPTED);
+    HOLDS(lufanelis_run_taken(ran) == 0 && lufanelis_run_passed(ran) == 65536);
+    ran = lufanelis_run(board, sizeof board, stations, 65537);
+    HOLDS(lufanelis_run_refusal(ran) == LUFANELIS_TOO_MANY_STEPS);
+    HOLDS(lufanelis_run_taken(ran) == 0 && lufanelis_run_passed(ran) == 0);
+}
+
+/* The longest line that any board has: every station decided on island 63, on a figure of eleven characters. */
+static void shows(void)
+{
+    static uint8_t largest[LUFANELIS_LARGEST_BOARD];
+    uint8_t line[LUFANELIS_LINE_LENGTH + 1];
+    uint32_t shown;
+    size_t at;
+
+    HOLDS(lufanelis_lay(largest, sizeof largest, 16, 64) == LUFANELIS_ACCEPTED);
+    for (at = sizeof largest - 16 * 24; at < sizeof largest; at += 24) {
+        largest[at] = 7;
+        largest[at + 2] = 63;
+        largest[at + 15] = 0x80;
+    }
+    memset(line, '?', sizeof line);
+    shown = lufanelis_show(largest, sizeof largest, line, LUFANELIS_LINE_LENGTH - 1);
+    HOLDS(shown == LUFANELIS_NOT_SHOWN && line[0] == '?');
+    shown = lufanelis_show(largest, sizeof largest - 1, line, LUFANELIS_LINE_LENGTH);
+    HOLDS(lufanelis_show_refusal(shown) == LUFANELIS_BAD_BOARD_LENGTH && lufanelis_show_length(shown) == 0);
+    HOLDS(line[0] == '?' && line[LUFANELIS_LINE_LENGTH - 1] == '?');
+    shown = lufanelis_show(largest, sizeof largest, line, LUFANELIS_LINE_LENGTH);
+    HOLDS(lufanelis_show_refusal(shown) == LUFANELIS_ACCEPTED);
+    HOLDS(lufanelis_show_length(shown) == 449 && strlen((const char *)line) == 449);
+    HOLDS(line[LUFANELIS_LINE_LENGTH - 1] == 0 && line[LUFANELIS_LINE_LENGTH] == '?');
+}
+
+static void words(void)
+{
+    uint64_t word = lufanelis_word((const uint8_t *)"(propose 1 2)", 13);
+
+    HOLDS(lufanelis_word_start(word) == 1 && lufanelis_word_length(word) == 7);
+    word = lufanelis_word((const uint8_t *)"(show", 5);
+    HOLDS(lufanelis_word_start(word) == 1 && lufanelis_word_length(word) == 4);
+    word = lufanelis_word((const uint8_t *)"(times 1 2)", 11);
+    HOLDS(lufanelis_word_start(word) == 0 && lufanelis_word_length(word) == 0);
+}
+
+static uint8_t printed[LUFANELIS_LINE_LENGTH];
+
+static uint64_t play(const char *line, size_t laid)
+{
+    return lufanelis_play_line((const uint8_t *)line, strlen(line), laid, board, sizeof board, printed, sizeof printed);
+}
+
+static int prints(uint64_t answer, const char *line, size_t laid)
+{
+    return strcmp((const char *)printed, line) == 0 && lufanelis_played_length(answer) == strlen(line) &&
+           lufanelis_played_laid(answer) == laid;
+}
+
+static void lines(void)
+{
+    HOLDS(prints(play("(show)", 0), "(refused 5)", 0));
+    HOLDS(prints(play("(board 2 2)", 0), "(laid 2 2)", sizeof board));
+    HOLDS(prints(play("(propose 2 -2147483648)", sizeof board), "(proposed 2 -2147483648)", sizeof board));
+    HOLDS(prints(play("(show)", sizeof board), "(stations (1 idle) (2 going 0 -2147483648))", sizeof board));
+    HOLDS(prints(play("(show)", 4294967295U), "(stations (1 idle) (2 going 0 -2147483648))", 4294967295U));
+    HOLDS(prints(play("(show)\n", sizeof board), "(refused 4)", sizeof board));
+    HOLDS(prints(play("(board 2 3)", sizeof board), "(refused 10)", sizeof board));
+    HOLDS(play("(show)", (size_t)4294967295U + 1) == LUFANELIS_NOT_PLAYED);
+}
+
+int main(void)
+{
+    figures();
+    parts();
+    alone(INT32_MIN);
+    alone(INT32_MAX);
+    alone(-1);
+    circling();
+    runs();
+    shows();
+    words();
+    lines();
+    printf("%u passed, %u failed\n", passed, failed);
+    return failed > 0;
+}
