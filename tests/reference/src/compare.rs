@@ -70,13 +70,18 @@ fn answer(engine: &dyn Engine, call: Call, board: &mut Lent, beside: &mut Beside
     }
 }
 
-/// "A refusal answers its number only and changes no byte"; a call that had no room was not made and changes none either.
-/// The answer to a line of a sheet is what it prints.
-fn refused(call: Call, answer: u64, beside: &Beside) -> bool {
+/// Whether a call that answers so may alter the board, and the line. "A refusal answers its number only and changes no
+/// byte": the answer to a line of a sheet is what it prints, and a call that had no room was not made.
+fn alters(call: Call, answer: u64, beside: &Beside) -> (bool, bool) {
+    let accepted = answer & 0xFF == 0;
     match call {
-        Call::Word(_) => false,
-        Call::Line(..) => answer == u64::MAX || beside.line.bytes().starts_with(b"(refused "),
-        _ => answer & 0xFF != 0,
+        Call::Lay(..) | Call::Propose(..) | Call::Step(_) | Call::Run(_) => (accepted, false),
+        Call::Check | Call::Standing(_) | Call::Word(_) => (false, false),
+        Call::Show(_) => (false, accepted),
+        Call::Line(..) => {
+            let made = answer != u64::MAX;
+            (made && !beside.line.bytes().starts_with(b"(refused "), made)
+        }
     }
 }
 
@@ -149,11 +154,9 @@ impl<'a> Compare<'a> {
         let expected = answer(&Reference, call, ours, &mut our_beside);
         let got = answer(self.engine, call, theirs, &mut their_beside);
         self.count(call, expected);
-        if refused(call, expected, &our_beside) {
-            let prints = matches!(call, Call::Line(..)) && expected != u64::MAX;
-            let kept = before == *ours && (prints || beside == our_beside);
-            assert!(kept, "the reference altered a byte on a refusal");
-        }
+        let (board, line) = alters(call, expected, &our_beside);
+        let kept = (board || before == *ours) && (line || beside.line == our_beside.line);
+        assert!(kept && beside.list == our_beside.list, "the reference altered what must stay: {}", name(call));
         let same = got == expected && ours == theirs && our_beside == their_beside;
         self.verdict(same, || {
             let bytes = difference(ours, theirs, &our_beside, &their_beside);

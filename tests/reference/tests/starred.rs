@@ -1,7 +1,7 @@
 //! The runs that the public document prints.
 
 use reference::calls;
-use reference::model::Answer;
+use reference::model::{Answer, Standing};
 use reference::sheet::play;
 
 fn plays(sheet: &str, printed: &str) {
@@ -22,6 +22,25 @@ fn the_first_sheet() {
          (stations (1 decided 0 -40) (2 going 0 15) (3 idle))\n(ran 24 0)\n\
          (stations (1 decided 0 -40) (2 decided 1 -40) (3 idle))\n(ran 0 4)\n",
     );
+}
+
+/// What the first sheet's first `show` prints, asked station by station.
+#[test]
+fn how_each_station_stands() {
+    let mut board = [9; 200];
+    assert!(calls::lay(&mut board, 3, 2).is_ok());
+    assert!(calls::propose(&mut board, 1, -40).is_ok());
+    assert!(calls::propose(&mut board, 2, 15).is_ok());
+    assert_eq!(calls::run(&mut board, &[1; 12]), Ok((12, 0)));
+    assert_eq!(calls::standing(&board, 1), Ok(Standing::Decided(0, -40)));
+    assert_eq!(calls::standing(&board, 2), Ok(Standing::Going(0, 15)));
+    assert_eq!(calls::standing(&board, 3), Ok(Standing::Idle));
+    assert_eq!(number(calls::standing(&board, 0)), 12);
+    assert_eq!(number(calls::standing(&board, 4)), 12);
+    assert_eq!(calls::run(&mut board, &[2; 24]), Ok((24, 0)));
+    assert_eq!(calls::standing(&board, 2), Ok(Standing::Decided(1, -40)));
+    board[2] = 1;
+    assert_eq!(number(calls::standing(&board, 0)), 11);
 }
 
 #[test]
