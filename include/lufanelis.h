@@ -26,8 +26,8 @@
 extern "C" {
 #endif
 
-/* Why a call is turned down, in the order in which it is tested. 1 to 5 are no call's answer: 1 is printed by the program that
- * plays whole sheets and by no call of this header, 2 to 5 by `lufanelis_play_line` alone. */
+/* Why a call is turned down, in the order in which it is tested. No call answers with 1 to 5: 1 comes only from the program
+ * that plays whole sheets, and 2 to 5 only in what `lufanelis_play_line` prints, as `(refused 4)`. */
 enum {
     LUFANELIS_ACCEPTED = 0,
     LUFANELIS_TOO_MANY_STEPS = 6,     /* a run of more than 65,536 stations */
@@ -143,8 +143,8 @@ uint64_t lufanelis_word(const uint8_t *line, size_t line_length);
 uint64_t lufanelis_play_line(const uint8_t *line, size_t line_length, size_t laid, uint8_t *memory, size_t memory_length,
                              uint8_t *printed, size_t printed_length);
 
-/* Answers taken apart. Each function is given an answer of the call that it is named after and hands back the part of it that
- * its own name says, 0 where the answer has none. */
+/* Answers taken apart: plain C beside the proved calls, tried by tests/header. Each function is given an answer of the call
+ * that it is named after and hands back the part of it that its own name says, 0 where the answer has none. */
 
 /* The signed number that 32 bits of two's complement stand for. */
 static inline int32_t lufanelis_figure(uint32_t bits)
