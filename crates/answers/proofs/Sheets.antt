@@ -17,7 +17,7 @@ use Rattle.shown.specs.Puts.{Holds, Puts}
 use Rattle.player.specs.declared.line.Played.{Played}
 use Rattle.player.specs.Played.{Plays}
 use Rattle.player.proofs.Laws.Playing.{refused-short}
-use Rattle.answers.specs.Answered.{lineIn, Answered, ended, refusedWhole, lineAnswered, answerAt, Answers}
+use Rattle.answers.specs.Answered.{lineIn, Answered, ended, refusedWhole, lineAnswered, answerAt, Answers, playAll, SheetPrinted}
 
 -- ---- the line in front
 
@@ -198,14 +198,6 @@ module _ (s : List ℕ) (at laid : ℕ) (m : List ℕ) where
 
 -- ---- the program's loop
 
-unfoldable pub playAll : (fuel : ℕ) (sheet : List ℕ) (at laid : ℕ) (m : List ℕ) → List ℕ
-playAll zero s at laid m = []
-playAll (suc k) s at laid m =
-    cond (ltb at (length s))
-    (answerAt s at laid m .printed
-    ++ playAll k s (answerAt s at laid m .next) (answerAt s at laid m .laid) (answerAt s at laid m .memory))
-    []
-
 all-left : (fuel : ℕ) (s : List ℕ) (at laid : ℕ) (m : List ℕ) → length s - at < fuel → playAll fuel s at laid m ≡ leftOf s at laid m
 unfolding playAll
 all-left zero s at laid m f = absurd (omega arith)
@@ -224,5 +216,6 @@ all-left (suc k) s at laid m f = by (leb (length s) at) refl (all-left k s _ _ _
         (ap (λ (t : List ℕ). a .printed ++ t) (rest (omega (arith, behind s at laid m h))) ∙ sym (left-at s at laid m))
 
 -- as many answers as the sheet has bytes and one more are enough
-pub sheet-printed : (s : List ℕ) (fuel : ℕ) → length s < fuel → playAll fuel s 0 0 (replicate (boardLength 16 64) 0) ≡ playSheet s
+pub sheet-printed : SheetPrinted
+unfolding SheetPrinted
 sheet-printed s fuel f = all-left fuel s 0 0 _ (omega arith) ∙ whole-sheet s

@@ -1,11 +1,13 @@
 -- What a sheet promises line by line: what the model plays from one place on, handed back by value.
--- Relies on the model's sheet and on what a line holds; the contract of the next answer relies on it.
+-- Relies on the model's sheet and on what a line holds; the contract of the next answer relies on it, and
+-- proofs/Sheets.antt proves `SheetPrinted`.
 use mathlib.Core.Path.{_≡_}
 use mathlib.Core.Bool.{cond}
 use mathlib.Core.List.{List, [], _∷_, _++_}
-use Prim.Native.Nat.{ℕ, _+_}
-use lib.Dec.{eqb, leb}
-use lib.ListN.{length, drop}
+use Prim.Native.Nat.{ℕ, zero, suc, _+_, _<_}
+use lib.Dec.{eqb, leb, ltb}
+use lib.ListN.{length, drop, replicate}
+use Rattle.model.specs.Layout.{boardLength}
 use Rattle.model.specs.Sheet as model
 use Rattle.model.specs.Sheet.{refusedText}
 use Rattle.shown.specs.Puts.{Holds}
@@ -47,3 +49,18 @@ pub record Answers (a : Answered) (r : Answer) (d : List ℕ) : Type 0 where
   pub laid : r .laid ≡ a .laid
   pub next : r .next ≡ a .next
   pub memory : d ≡ a .memory
+
+-- The program's loop: answers are printed one after another, each from where the one before says to go on, up to the sheet's end.
+-- The fuel bounds the answers.
+unfoldable pub playAll : (fuel : ℕ) (sheet : List ℕ) (at laid : ℕ) (m : List ℕ) → List ℕ
+playAll zero s at laid m = []
+playAll (suc k) s at laid m =
+    cond (ltb at (length s))
+    (answerAt s at laid m .printed
+    ++ playAll k s (answerAt s at laid m .next) (answerAt s at laid m .laid) (answerAt s at laid m .memory))
+    []
+
+-- Started at the sheet's first byte on a memory of zeros, it prints what the sheet prints: as many answers as the sheet has bytes and
+-- one more are enough.
+unfoldable pub SheetPrinted : Type 0
+SheetPrinted = (s : List ℕ) (fuel : ℕ) → length s < fuel → playAll fuel s 0 0 (replicate (boardLength 16 64) 0) ≡ model.playSheet s

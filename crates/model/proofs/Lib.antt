@@ -9,3 +9,4 @@ pub mod Bridge
 pub mod Demand3
 pub mod Sheet
 pub mod Starred
+pub mod Cards

@@ -19,3 +19,4 @@ pub mod Sheet
 pub mod AnyList
 pub mod SheetList
 pub mod Starred
+pub mod Cards
