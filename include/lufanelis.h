@@ -13,8 +13,8 @@
  * behind it says; bytes that a call may write are lent by one of its pointers only; nobody else touches lent bytes until
  * the call returns.
  *
- * A *figure* is a signed 32-bit number. Stations are numbered from 1, islands from 0. A line that is handed back has at most
- * 449 bytes, and zeros after it up to 512; so it always ends in a zero byte, as a string of C does. The functions at the end
+ * A *figure* is a signed 32-bit number. Stations are numbered from 1, islands from 0. A line that is handed back has fewer than
+ * 512 bytes, and zeros after it up to 512; so it always ends in a zero byte, as a string of C does. The functions at the end
  * take answers apart. */
 #ifndef LUFANELIS_H
 #define LUFANELIS_H
