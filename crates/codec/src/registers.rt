@@ -21,7 +21,7 @@ pub fn register_at(s: &[u8], at: usize) -> Register
     }
 }
 
-pub fn write_register(cell: &mut [u8], r: Register)
+fn write_register(cell: &mut [u8], r: Register)
     requires { ⌜ length (now cell) ≡ 8 ⌝ }
     ensures { λ _. ⌜ now (cell .exit) ≡ layRegister r ⌝ }
 {

@@ -11,7 +11,7 @@ pub fn same(x: i32, y: i32) -> bool
     x == y
 }
 
-pub fn above(x: i32, y: i32) -> bool
+fn above(x: i32, y: i32) -> bool
     ensures { λ r. ⌜ r ≡ figure.above x y ⌝ }
 {
     y < x

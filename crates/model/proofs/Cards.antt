@@ -1,7 +1,7 @@
 -- Each wrong card differs from `step` on its board: both are computed, and one number of what they leave or answer differs.
 -- Relies on the definitions alone.
 use mathlib.Core.Path.{_≡_, refl, sym, ap, _∙_}
-use mathlib.Core.Bool.{Bool, true, false}
+use mathlib.Core.Bool.{false}
 use Prim.Native.Nat.{ℕ}
 use lib.Dec.{eqb, eqb-refl}
 use lib.IntN.{natAbs}

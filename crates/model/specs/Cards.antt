@@ -1,14 +1,13 @@
 -- The wrong cards of 01's checklist and its forbidden shortcuts, each as a step on bytes, in one table: on a named board each answers
 -- or leaves something else than `step` does, so none of them can meet the equation of a step.
 -- Relies on the calls and the sheet; proofs/Cards.antt proves the one statement `ShutOut`.
-use Rattle.model.specs.Kit.{Bool, true, false, cond, List, [], _∷_, _++_, Option, none, some, ℕ, zero, suc, _+_, _-_, ltb, replicate, pos, negsuc}
+use Rattle.model.specs.Kit.{cond, List, [], _∷_, _++_, ℕ, zero, suc, _+_, _-_, ltb, replicate, pos, negsuc}
 use mathlib.Core.Path.{_≡_}
-use Rattle.model.specs.Bytes.{byte}
 use Rattle.model.specs.Figure.{Figure, figures}
-use Rattle.model.specs.Listing.{Register, empty, filled, Turn, turnM, turnA, turnB, Grade, first, second, third, Seen, nothing, seen, Stage, writing, reading, has-decided, is-spent}
-use Rattle.model.specs.Listing.{Station, idle, active, Answer, wrote, read, went, marked, adopted, decided, spent, refused, Move, array, placeArray, placeColumn, stay, ended, finish, see, move}
+use Rattle.model.specs.Listing.{Register, empty, filled, Turn, turnM, turnA, turnB, first, second, third, Seen, nothing, seen, Stage, writing, reading, has-decided, is-spent}
+use Rattle.model.specs.Listing.{Station, idle, active, Answer, read, went, decided, spent, refused, Move, placeArray, placeColumn, stay, ended, finish, see, move}
 use Rattle.model.specs.Layout.{boardLength, registerOf}
-use Rattle.model.specs.Calls.{After, RunAnswer, ran, notRun, stations, islands, stationAt, putRegister, putStation, lay, propose, step, run}
+use Rattle.model.specs.Calls.{After, ran, stations, islands, stationAt, putRegister, putStation, lay, propose, step, run}
 use Rattle.model.specs.Runs.{after}
 
 -- ---- a card by the move that it makes, where `step` makes the listing's; it may look at every register of the collect's array

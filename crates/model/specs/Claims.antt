@@ -1,7 +1,7 @@
 -- What 01 says of every call beside its equation: a refusal changes nothing, soundness is kept, a step is local and its answer
 -- tells where the station stands.
 -- Relies on the calls; proofs/Calls/Claims.antt proves each claim.
-use Rattle.model.specs.Kit.{Bool, true, false, List, [], _∷_, none, some, ℕ, zero, _-_, length}
+use Rattle.model.specs.Kit.{false, List, [], _∷_, none, some, ℕ, _-_}
 use mathlib.Core.Path.{_≡_}
 use mir.Syntax.{w32}
 use mir.Val.{SFits}
@@ -9,7 +9,7 @@ use Prim.Native.Nat.{_<_}
 use Rattle.model.specs.Bytes.{splice}
 use Rattle.model.specs.Figure.{Figure, figures}
 use Rattle.model.specs.Listing.{Flag, flagNumber, Turn, turnM, turnA, turnB, Seen, nothing, Register, empty, Stage, writing, reading, has-decided, is-spent, Station, idle, active}
-use Rattle.model.specs.Listing.{Answer, wrote, read, went, marked, adopted, decided, spent, refused, accepted, placeArray, placeColumn, Move, move}
+use Rattle.model.specs.Listing.{Answer, wrote, read, went, marked, adopted, decided, spent, refused, accepted, placeArray, placeColumn, move}
 use Rattle.model.specs.Layout.{registerOf, recordOf, stationOf}
 use Rattle.model.specs.Calls.{After, notRun, stations, islands, boardRefusal, lay, propose, step, run}
 

@@ -13,7 +13,7 @@ use crate::zeros::zero_word;
 use codec::places::record_offset;
 use codec::records::record_at;
 
-pub fn record_sound(s: &[u8], at: usize, n: usize, k: usize, i: usize) -> bool
+fn record_sound(s: &[u8], at: usize, n: usize, k: usize, i: usize) -> bool
     requires { ⌜ (length (now s) ≡ boardLength n k) × (n ≤ 16) × (k ≤ 64) × (i < n) × (at ≡ recordAt n k i) ⌝ }
     ensures { λ r. ⌜ r ≡ recordSound n k i (now (s .entry)) (recordOf n k i (now (s .entry))) ⌝ }
 {

@@ -26,7 +26,7 @@ fn head_sound(s: &[u8]) -> bool
     zero_word(s, 4)
 }
 
-pub fn sound(board: &[u8], n: usize, k: usize) -> bool
+fn sound(board: &[u8], n: usize, k: usize) -> bool
     requires { ⌜ (length (now board) ≡ boardLength n k) × (1 ≤ n) × (n ≤ 16) × (2 ≤ k) × (k ≤ 64) ⌝ }
     ensures { λ r. ⌜ r ≡ Model.sound n k (now (board .entry)) ⌝ }
 {

@@ -14,7 +14,7 @@ use record_soundness::zeros::zero_word;
 
 // The mark, the island and two zeros are read as one number, which decides all but the n registers of m: in A and B the
 // island is zero, so that the number of a filled register is its mark.
-pub fn register_sound(s: &[u8], at: usize, marks: u8, islands: u8) -> bool
+fn register_sound(s: &[u8], at: usize, marks: u8, islands: u8) -> bool
     requires { ⌜ at + 8 ≤ length (now s) ⌝ }
     ensures { λ r. ⌜ r ≡ registerSound marks islands (part at 8 (now (s .entry))) ⌝ }
 {
@@ -38,7 +38,7 @@ pub fn register_sound(s: &[u8], at: usize, marks: u8, islands: u8) -> bool
 }
 
 // The n registers from start on.
-pub fn row_sound(s: &[u8], start: usize, n: usize, marks: u8, islands: u8) -> bool
+fn row_sound(s: &[u8], start: usize, n: usize, marks: u8, islands: u8) -> bool
     requires { ⌜ (start + 8 * n ≤ length (now s)) × (n ≤ 16) ⌝ }
     ensures { λ r. ⌜ r ≡ every n (λ j. registerSound marks islands (part (start + 8 * j) 8 (now (s .entry)))) ⌝ }
 {
@@ -53,7 +53,7 @@ pub fn row_sound(s: &[u8], start: usize, n: usize, marks: u8, islands: u8) -> bo
 }
 
 // The rows A and B of each island.
-pub fn islands_sound(s: &[u8], n: usize, k: usize) -> bool
+fn islands_sound(s: &[u8], n: usize, k: usize) -> bool
     requires { ⌜ (length (now s) ≡ boardLength n k) × (1 ≤ n) × (n ≤ 16) × (k ≤ 64) ⌝ }
     ensures { λ r. ⌜ r ≡ every k (λ c. arraySound n 1 1 (now (s .entry)) (inA c) && arraySound n 2 1 (now (s .entry)) (inB c)) ⌝ }
 {

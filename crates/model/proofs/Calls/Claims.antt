@@ -1,11 +1,9 @@
 -- The claims of specs/Claims.antt and specs/Runs.antt, each by its law.
 -- Relies on the laws of the calls; it is where a reader finds them proved.
-use mathlib.Core.Path.{_≡_, sym, ap, subst}
 use mathlib.Core.List.{List}
 use mathlib.Core.Option.{none}
 use Prim.Native.Nat.{ℕ}
 use Rattle.model.specs.Figure.{figures}
-use Rattle.model.specs.Calls.{boardRefusal}
 use Rattle.model.specs.Claims.{Unaltered, Passes, KeepSound, Local, OthersStay, AnswersTell}
 use Rattle.model.proofs.Board.Codec.{Fits}
 use Rattle.model.proofs.Listing.Tells.{Told, move-tells}

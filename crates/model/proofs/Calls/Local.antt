@@ -7,9 +7,8 @@ use mathlib.Core.Option.{Option, none, some}
 use Prim.Native.Nat.{ℕ, _-_, _<_}
 use mathlib.Core.Bool.{_&&_}
 use lib.Dec.{leb}
-use Rattle.model.specs.Bytes.{splice}
 use Rattle.model.specs.Figure.{Figure, figures}
-use Rattle.model.specs.Listing.{Register, empty, Stage, writing, reading, has-decided, is-spent, Station, idle, active, Array, array, entry}
+use Rattle.model.specs.Listing.{Register, Stage, writing, reading, has-decided, is-spent, Station, idle, active, Array, array, entry}
 use Rattle.model.specs.Listing.{Answer, refused, Move, move, placeArray, placeColumn}
 use Rattle.model.specs.Layout.{registerAt, recordAt, registerOf, recordOf, stationOf}
 use Rattle.model.specs.Calls.{After, Refusal, unless, stations, islands, stationRefusal, stationAt, unlessRefused, putStation, putRegister, notGoing, access, stepped, stepOn, step}

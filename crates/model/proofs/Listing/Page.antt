@@ -2,19 +2,18 @@
 -- any strict total order of figures; and the lines leave nothing open.
 -- Relies on Met; it proves the claims of specs/Collects.antt.
 use mathlib.Core.Path.{_≡_, refl, sym, ap, _∙_, subst}
-use mathlib.Core.Bool.{Bool, true, false, cond}
+use mathlib.Core.Bool.{false}
 use mathlib.Core.List.{List, [], _∷_, _++_, map}
 use mathlib.Core.Logic.{inl, inr}
-use mathlib.Core.Option.{none, some}
+use mathlib.Core.Option.{none}
 use Prim.Native.Nat.{ℕ, _+_, _<_}
 use native.Mathlib.Omega.{arith}
-use lib.Dec.{ltb}
 use lib.ListN.{length}
 use borrow.Author.Tests.{lt-ltb, le-ltb}
-use Rattle.model.specs.Figure.{Figure, figures}
+use Rattle.model.specs.Figure.{figures}
 use Rattle.model.specs.Listing.{Order, Flag, adopt, commit, flagNumber, Register, empty, filled, Turn, turnM, turnA, turnB, first, second, third, Seen, nothing, seen}
-use Rattle.model.specs.Listing.{Stage, writing, reading, has-decided, Move, stay, onward, finish, ended, see, move, read, went, marked, decided}
-use Rattle.model.specs.Collects.{_∈_, Only, Max, without⊥, inMax, inSA, inSB, firstCommit, Strict, above₂, ReadMax, LinesA, line8, line9, LinesB, line12, line13, line14}
+use Rattle.model.specs.Listing.{Stage, writing, reading, Move, stay, finish, ended, see, move, read, went, marked}
+use Rattle.model.specs.Collects.{_∈_, without⊥, inMax, inSA, inSB, firstCommit, Strict, above₂, ReadMax, LinesA, line8, line9, LinesB, line12, line13, line14}
 use Rattle.model.specs.Collects.{returned, Ends, through, AllRead, Collects, Leave}
 use Rattle.model.proofs.Listing.Sets.{two-not-only, max-unique}
 use Rattle.model.proofs.Listing.Order.{pair-total, strict}

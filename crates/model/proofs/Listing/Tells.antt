@@ -1,11 +1,11 @@
 -- The answer of a move tells where the station stands after it: went, marked, adopted, decided and spent name its island,
 -- flag and carried figure.
 -- Relies on the listing, for any type of figures; a reader of the answers relies on it.
-use mathlib.Core.Path.{_≡_, refl}
+use mathlib.Core.Path.{refl}
 use Prim.Native.Nat.{ℕ, _+_}
 use lib.Dec.{ltb}
-use Rattle.model.specs.Listing.{Order, Flag, adopt, commit, flagNumber, Turn, turnM, turnA, turnB, Grade, first, second, third, Register, Seen, nothing, seen}
-use Rattle.model.specs.Listing.{Stage, writing, reading, has-decided, is-spent, Answer, wrote, read, went, marked, adopted, decided, spent, refused}
+use Rattle.model.specs.Listing.{Order, adopt, commit, Turn, turnM, turnA, turnB, Grade, first, second, third, Register, Seen, nothing, seen}
+use Rattle.model.specs.Listing.{Stage, writing, reading, has-decided, is-spent}
 use Rattle.model.specs.Claims.{Tells}
 use Rattle.model.proofs.Basics.Tests.{cond-case}
 use Rattle.model.specs.Listing.{Move, stay, onward, finish, ended, see, move}

@@ -1,17 +1,16 @@
 -- The sheet's limits and the edges of its grammar: "65,536 steps run; 65,537 give 6. Nine open brackets give 3; eight do
 -- not." Relies on Lines; each row of the table is a line and what the definitions read in it.
 use mathlib.Core.Path.{_≡_, refl, sym, ap, _∙_, subst}
-use mathlib.Core.List.{List, [], _∷_, _++_}
+use mathlib.Core.List.{List, [], _∷_}
 use Prim.Native.Nat.{ℕ, zero, suc, _+_, _*_, _≤_, _<_}
 use native.Mathlib.Nat.{suc-mul}
 use native.Mathlib.Omega.{arith}
 use lib.Dec.{lit<, lit≤}
-use lib.IntN.{pos, negsuc}
-use lib.ListN.{length, take, replicate, length-append}
+use lib.ListN.{length, take, length-append}
 use Rattle.model.specs.Calls.{unless, ran, step}
 use Rattle.model.specs.Show.{textFrom, text}
-use Rattle.model.specs.Forms.{station, times, Items, done, next, board, propose, steps, show, repeated, expand, found, andThen, spaced, digit, digitsFrom, natural, number, figureIn}
-use Rattle.model.specs.Forms.{behind, timesIn, itemIn, itemsIn, same, wordOf, upToStop, firstWord, closing, formAfter, formIn, one, tooDeep, Reading, reads, unread, orFour, readLine}
+use Rattle.model.specs.Forms.{times, steps, repeated, expand, found, andThen, spaced, digit, digitsFrom, natural, number, figureIn}
+use Rattle.model.specs.Forms.{behind, timesIn, itemIn, itemsIn, same, wordOf, upToStop, firstWord, closing, formAfter, formIn, one, tooDeep, Reading, reads, orFour, readLine}
 use Rattle.model.specs.Sheet.{turnedDown, ranText, playReading, playLine}
 use Rattle.model.specs.Edges.{timesOne, deep, rows, Holds, Edges}
 use Rattle.model.proofs.Calls.Refusals.{Board}

@@ -2,23 +2,20 @@
 -- Relies on the calls' laws and on runs as lists of steps; the sheet's part in demand 3 relies on it.
 use mathlib.Core.Path.{_≡_, refl, sym, ap, _∙_}
 use mathlib.Core.Bool.{cond}
-use mathlib.Core.Logic.{_⊎_, inl, inr, _↔_}
+use mathlib.Core.Logic.{_⊎_, inl, inr}
 use mathlib.Core.List.{List, [], _∷_, _++_, map}
 use mathlib.Core.Option.{none, some}
 use Prim.Native.Nat.{ℕ, _+_, _≤_, _<_}
-use native.Mathlib.Omega.{arith}
 use lib.Dec.{leb, le→leb}
 use lib.ListN.{length, take, drop, take-append-drop}
 use borrow.Author.Tests.{leb-true, leb-false, ne-eqb, lt-leb}
-use Rattle.model.specs.Bytes.{byte}
 use Rattle.model.specs.Figure.{Figure}
 use Rattle.model.specs.Layout.{boardLength}
 use Rattle.model.specs.Listing.{refused}
 use Rattle.model.specs.Calls.{After, Refusal, RunAnswer, ran, notRun, unless, boardRefusal, unlessRefused, lay, step, stepOn, ranFrom, run}
 use Rattle.model.specs.Calls as calls
-use Rattle.model.specs.Show.{text, textFrom}
 use Rattle.model.specs.Show as shows
-use Rattle.model.specs.Forms.{Form, board, propose, steps, show, Items, expand, Reading, reads, unread}
+use Rattle.model.specs.Forms.{board, propose, steps, show, Items, expand, Reading, reads, unread}
 use Rattle.model.specs.Sheet.{Played, refusedText, orRefused, proposedText, ranText, shownText, turnedDown, playBoard, onBoard, playForm, playReading}
 use Rattle.model.specs.AnyList.{Call, stepping, called}
 use Rattle.model.specs.SheetList.{formCalls, callsOf, Stays}

@@ -1,22 +1,18 @@
 -- The reader finds in a form written out by 01's grammar that form.
 -- Relies on the grammar and on the reading of its numbers; WrittenBack has the other direction.
-use mathlib.Core.Path.{_≡_, refl, sym, ap, _∙_, subst}
-use mathlib.Core.Bool.{Bool, false, not}
+use mathlib.Core.Path.{_≡_, refl, ap, _∙_}
+use mathlib.Core.Bool.{false}
 use mathlib.Core.List.{List, [], _∷_, _++_, append-assoc}
-use mathlib.Core.Option.{none, some}
+use mathlib.Core.Option.{some}
 use Prim.Native.Nat.{ℕ, zero, suc, _+_, _≤_, _<_}
 use native.Mathlib.Omega.{arith}
-use lib.Dec.{T, leb, le→leb, lit<}
+use lib.Dec.{lit<}
 use lib.ListN.{length, length-append}
-use mir.Syntax.{w32}
-use mir.Val.{SFits}
 use Rattle.model.specs.Bytes.{byte}
-use Rattle.model.specs.Calls.{Refusal, unless}
-use Rattle.model.specs.Show.{textFrom, text, decimalIn, decimal, signed}
-use Rattle.model.specs.Forms.{Item, station, times, Items, done, next, Form, board, propose, steps, show, found, spaced, digit, number}
-use Rattle.model.specs.Forms.{behind, timesIn, itemIn, itemsIn, same, wordOf, upToStop, firstWord, closing, stepsWord, formAfter, formIn, tooDeep, Reading, reads, unread, orFour, readLine}
+use Rattle.model.specs.Show.{textFrom, text, decimalIn, decimal}
+use Rattle.model.specs.Forms.{Item, station, times, Items, done, next, board, propose, steps, show, found, spaced, digit, number}
+use Rattle.model.specs.Forms.{behind, timesIn, itemIn, itemsIn, same, wordOf, upToStop, firstWord, closing, stepsWord, formAfter, formIn}
 use Rattle.model.specs.Grammar.{writtenItem, writtenItems, written, AtLeastOne, ItemInRange, ItemsInRange, InRange, ReadsWritten}
-use Rattle.model.proofs.Calls.Refusals.{unless-passes}
 use Rattle.model.proofs.Sheet.Numbers.{Stops, then-found, digit-not, decimal-begins, number-decimal, figure-signed}
 
 -- ---- what is read of a written form
