@@ -1,5 +1,9 @@
 -- Laws of the lexer, by subject.
 pub mod Places
+pub mod Answers
 pub mod Numbers
 pub mod Spaced
+pub mod Given
+pub mod Known
 pub mod Words
+pub mod Behind

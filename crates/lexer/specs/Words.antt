@@ -1,4 +1,4 @@
--- A word as the code names it, where it ends, and the part of a line that it is.
+-- A word as the code names it, where it ends, the part of a line that it is, and a given word at a place.
 -- Relies on the model's words; the contracts of words rely on it.
 use mathlib.Core.Path.{_≡_}
 use mathlib.Core.List.{List}
@@ -6,7 +6,10 @@ use mathlib.Core.Option.{Option, none, some}
 use Prim.Native.Nat.{ℕ, _+_, _≤_, _<_, _-_}
 use lib.ListN.{length, take, drop}
 use denote.Ref.{RefT}
-use Rattle.model.specs.Forms.{Word, boardWord, proposeWord, stepsWord, showWord, wordOf, upToStop}
+use Rattle.model.specs.Forms.{Word, boardWord, proposeWord, stepsWord, showWord, wordOf, upToStop, behind}
+use Rattle.lexer.specs.Answered.{Answered, took, refused, orRefused}
+use Rattle.lexer.specs.declared.word.FoundWord.{FoundWord}
+use Rattle.lexer.specs.declared.word.FoundWord.the-variants.{At, Refused}
 use Rattle.lexer.specs.declared.word.FormWord.the-variants.{Board, Propose, Steps, Show}
 use Rattle.lexer.specs.declared.word.Named.{Named}
 use Rattle.lexer.specs.declared.word.Named.the-variants.{Form, Nothing}
@@ -32,3 +35,17 @@ pub record WordEnd (line : List ℕ) (r : ℕ) : Type 0 where
 pub record PartIs (line part : RefT (List ℕ)) (w : List ℕ) : Type 0 where
   pub bytes : part .now ≡ w
   pub place : 0 < length (part .now) → (part .ptr .0 ≡ line .ptr .0) × (part .ptr .1 ≡ line .ptr .1 + 1)
+
+-- what follows a given word, as the model's reader has it, or the number of the refusal
+unfoldable pub wordAt : List ℕ → FoundWord → Answered (List ℕ)
+wordAt line (At next) = took (drop next line)
+wordAt line (Refused k) = refused k
+
+abbrev pub WordInside : (at : ℕ) → FoundWord → Type 0
+WordInside at (At next) = at ≤ next
+WordInside at (Refused k) = Unit {0}
+
+-- the word w at `at`
+pub record WordIs (line : List ℕ) (at : ℕ) (w : List ℕ) (r : FoundWord) : Type 0 where
+  pub reads : wordAt line r ≡ orRefused (behind w (drop at line))
+  pub inside : WordInside at r

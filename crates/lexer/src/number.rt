@@ -1,19 +1,18 @@
 // Numbers at a place of a line: no plus, no leading zero, no −0, and each in its range.
 // Relies on nothing; the readers of items and forms and the walk over items rely on it.
-ghost use mathlib.Core.Path.{_≡_};
-ghost use Prim.Native.Nat.{_≤_, _<_};
+ghost use Prim.Native.Nat.{_≤_};
 ghost use lib.ListN.{length};
 ghost use Rattle.lexer.specs.Placed.{DigitsIs, NumberIs, SpacedIs, FigureIs};
 
-// The number read and the place after it.
+// The number read and the place after it, or the number of the refusal.
 pub enum FoundNumber {
     At { value: u32, next: usize },
-    Missing,
+    Refused { number: u8 },
 }
 
 pub enum FoundFigure {
     At { value: i32, next: usize },
-    Missing,
+    Refused { number: u8 },
 }
 
 // The digits from `at` on, behind those of `value`. A number that grows beyond its range is none, whatever follows.
@@ -33,7 +32,7 @@ fn digits(line: &[u8], at: usize, value: u32, high: u32) -> FoundNumber
         }
         let more = 10 * value as u64 + (byte - b'0') as u64;
         if (high as u64) < more {
-            return FoundNumber::Missing;
+            return FoundNumber::Refused { number: 4 };
         }
         value = more as u32;
         next += 1;
@@ -47,20 +46,20 @@ pub fn number(line: &[u8], at: usize, low: u32, high: u32) -> FoundNumber
     ensures { λ r. ⌜ NumberIs (now (line .entry)) at low high r ⌝ }
 {
     if line.len() <= at {
-        return FoundNumber::Missing;
+        return FoundNumber::Refused { number: 4 };
     }
     let first = line[at];
     if first < b'0' {
-        return FoundNumber::Missing;
+        return FoundNumber::Refused { number: 4 };
     }
     if b'9' < first {
-        return FoundNumber::Missing;
+        return FoundNumber::Refused { number: 4 };
     }
     if b'0' < first {
         return digits(line, at + 1, (first - b'0') as u32, high);
     }
     if 0 < low {
-        return FoundNumber::Missing;
+        return FoundNumber::Refused { number: 4 };
     }
     FoundNumber::At {
         value: 0,
@@ -73,10 +72,10 @@ pub fn spaced_number(line: &[u8], at: usize) -> FoundNumber
     ensures { λ r. ⌜ SpacedIs (now (line .entry)) at r ⌝ }
 {
     if line.len() <= at {
-        return FoundNumber::Missing;
+        return FoundNumber::Refused { number: 4 };
     }
     if line[at] != b' ' {
-        return FoundNumber::Missing;
+        return FoundNumber::Refused { number: 4 };
     }
     number(line, at + 1, 0, 99)
 }
@@ -86,17 +85,17 @@ pub fn spaced_figure(line: &[u8], at: usize) -> FoundFigure
     ensures { λ r. ⌜ FigureIs (now (line .entry)) at r ⌝ }
 {
     if line.len() <= at {
-        return FoundFigure::Missing;
+        return FoundFigure::Refused { number: 4 };
     }
     if line[at] != b' ' {
-        return FoundFigure::Missing;
+        return FoundFigure::Refused { number: 4 };
     }
     if line.len() <= at + 1 {
-        return FoundFigure::Missing;
+        return FoundFigure::Refused { number: 4 };
     }
     if line[at + 1] == b'-' {
         let FoundNumber::At { value, next } = number(line, at + 2, 1, 2147483648) else {
-            return FoundFigure::Missing;
+            return FoundFigure::Refused { number: 4 };
         };
         return FoundFigure::At {
             value: !((value - 1) as i32),
@@ -104,7 +103,7 @@ pub fn spaced_figure(line: &[u8], at: usize) -> FoundFigure
         };
     }
     let FoundNumber::At { value, next } = number(line, at + 1, 0, 2147483647) else {
-        return FoundFigure::Missing;
+        return FoundFigure::Refused { number: 4 };
     };
     FoundFigure::At {
         value: value as i32,

@@ -1,10 +1,10 @@
-// The word that names a form, as the part of the line that it occupies, and which form it names.
-// Relies on the test of two parts for equality; the reader of a line and the C interface rely on it.
+// The word that names a form, as the part of the line that it occupies, and which form it names; and a given word at a place.
+// Relies on the test of two parts for equality; the readers of a line and of items and the C interface rely on it.
 ghost use mathlib.Core.Path.{_≡_};
-ghost use Prim.Native.Nat.{_≤_, _<_};
+ghost use Prim.Native.Nat.{_<_};
 ghost use lib.ListN.{length};
 ghost use Rattle.model.specs.Forms.{firstWord, formWord};
-ghost use Rattle.lexer.specs.Words.{WordEnd, PartIs, named};
+ghost use Rattle.lexer.specs.Words.{WordEnd, PartIs, named, WordIs};
 use check::same;
 
 pub enum FormWord {
@@ -17,6 +17,12 @@ pub enum FormWord {
 pub enum Named {
     Form { word: FormWord },
     Nothing,
+}
+
+// The place after a word, or the number of the refusal.
+pub enum FoundWord {
+    At { next: usize },
+    Refused { number: u8 },
 }
 
 // Where the word that starts at 1 ends: before a space, a bracket or the line's end.
@@ -90,4 +96,22 @@ pub fn form_word(line: &[u8]) -> &[u8]
         return &line[..0];
     };
     word
+}
+
+// The bytes of `word` at `at`; no word is empty.
+pub fn word_at(line: &[u8], at: usize, word: &[u8]) -> FoundWord
+    requires { ⌜ 0 < length (now word) ⌝ }
+    ensures { λ r. ⌜ WordIs (now (line .entry)) at (now (word .entry)) r ⌝ }
+{
+    if line.len() < at {
+        return FoundWord::Refused { number: 4 };
+    }
+    if line.len() - at < word.len() {
+        return FoundWord::Refused { number: 4 };
+    }
+    let next = at + word.len();
+    if same(&line[at..next], word) {
+        return FoundWord::At { next };
+    }
+    FoundWord::Refused { number: 4 }
 }

@@ -1,11 +1,9 @@
 // A line to its form, or to refusal 2, 3 or 4.
 // Relies on the lexer's words and numbers and on items; the player of a line relies on it.
 ghost use mathlib.Core.Path.{_≡_};
-ghost use mathlib.Core.Bool.{true};
-ghost use mathlib.Core.List.{[]};
 ghost use Prim.Native.Nat.{_≤_};
 ghost use lib.ListN.{length, drop};
-ghost use Rattle.model.specs.Forms.{Word, boardWord, proposeWord, stepsWord, showWord, formAfter, formIn, tooDeep, same, orFour, readLine};
+ghost use Rattle.model.specs.Forms.{boardWord, proposeWord, stepsWord, showWord, formAfter, formIn, tooDeep, same, orFour, readLine};
 ghost use Rattle.model.specs.Show.{text};
 ghost use Rattle.sheet.specs.Lines.{lineForm};
 use crate::item::Counted;

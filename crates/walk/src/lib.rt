@@ -1,16 +1,15 @@
 // The items of a `steps` line, run as they stand in the line: a list of items and an item call each other, as their readers
 // do, so that no buffer holds the steps and the stack is bounded by the depth of the brackets.
-// Relies on the step of a sound board and on the readers of numbers and of `times`; the player of a line relies on it.
+// Relies on the step of a sound board and on the reader of a known number: the line was read before, so that nothing here can
+// miss. The player of a line relies on it.
 ghost use mathlib.Core.Path.{_≡_};
 ghost use mathlib.Core.Option.{none};
 ghost use Prim.Native.Nat.{_<_};
 ghost use Rattle.model.specs.Calls.{boardRefusal};
 ghost use Rattle.walk.specs.Walks.{roundAfter, ItemReads, ItemsRead, ItemWalks, ItemsWalk, LineCounts, RunsLine};
-use lexer::number::FoundNumber;
-use lexer::number::number;
+use lexer::known::known_number;
 use model::RunVerdict;
 use model::Verdict;
-use sheet::item::times;
 use soundness::board::check_board;
 use stepping::running::taken;
 use stepping::sound_step::step_on;
@@ -33,37 +32,36 @@ fn round_after(i: u32, rounds: u32, taken: u32) -> u32
     i + 1
 }
 
+// The item at `at`. The k of `(times k ..)` stands behind seven bytes.
 fn run_item(board: &mut [u8], line: &[u8], at: usize) -> Walked
     requires { ⌜ (boardRefusal (now board) none ≡ none) × ItemReads (now line) at ⌝ }
     ensures { λ r. ⌜ ItemWalks (now (line .entry)) at (now (board .entry)) r (now (board .exit)) ⌝ }
 {
     if line[at] != b'(' {
-        let FoundNumber::At { value, next } = number(line, at, 0, 99) else {
-            return Walked { taken: 0, next: at };
-        };
-        let answer = step_on(board, value as u8);
+        let station = known_number(line, at);
+        let answer = step_on(board, station.value as u8);
         return Walked {
             taken: taken(answer),
-            next,
+            next: station.next,
         };
     }
-    let FoundNumber::At { value, next: inner } = times(line, at) else {
-        return Walked { taken: 0, next: at };
-    };
+    let times = known_number(line, at + 7);
+    let rounds = times.value;
+    let inner = times.next;
     let mut total: u32 = 0;
     let mut next = inner;
     let mut i = 0;
-    while i < value {
+    while i < rounds {
         let walked = run_items(board, line, inner);
         total += walked.taken;
         next = walked.next;
-        i = round_after(i, value, walked.taken);
+        i = round_after(i, rounds, walked.taken);
     }
     Walked { taken: total, next }
 }
 
 // The items from `at` on, up to the closing bracket.
-pub fn run_items(board: &mut [u8], line: &[u8], at: usize) -> Walked
+fn run_items(board: &mut [u8], line: &[u8], at: usize) -> Walked
     requires { ⌜ (boardRefusal (now board) none ≡ none) × ItemsRead (now line) at ⌝ }
     ensures { λ r. ⌜ ItemsWalk (now (line .entry)) at (now (board .entry)) r (now (board .exit)) ⌝ }
 {

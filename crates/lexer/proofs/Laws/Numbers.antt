@@ -1,6 +1,6 @@
 -- Digits one by one: what the loop over them keeps, and what it may answer at each place where it stops.
 -- Relies on Places and the model's `digitsFrom` and `number`; the proofs of src/number.rt rely on it.
-use mathlib.Core.Path.{_≡_, refl, sym, _∙_}
+use mathlib.Core.Path.{_≡_, refl, sym, ap, _∙_}
 use mathlib.Core.Bool.{Bool, true, false, cond, _&&_}
 use mathlib.Core.List.{List, [], _∷_}
 use mathlib.Core.Option.{none}
@@ -11,11 +11,12 @@ use lib.ListN.{length, getD, drop, drop-of-length-le}
 use borrow.Author.Tests.{le-leb, lt-leb, eq-eqb, ne-eqb}
 use Rattle.model.specs.Forms.{Read, found, andThen, digit, digitsFrom, natural, number}
 use Rattle.lexer.specs.declared.number.FoundNumber.{FoundNumber}
-use Rattle.lexer.specs.declared.number.FoundNumber.the-variants.{At, Missing}
+use Rattle.lexer.specs.declared.number.FoundNumber.the-variants.{At, Refused}
+use Rattle.lexer.specs.Answered.{orRefused}
 use Rattle.lexer.specs.Placed.{numberAt, NumberInside, upTo, DigitsIs, NumberIs}
 use Rattle.lexer.proofs.Laws.Places.{here}
 
-is-digit : (b : ℕ) → 48 ≤ b → b ≤ 57 → digit b ≡ true
+pub is-digit : (b : ℕ) → 48 ≤ b → b ≤ 57 → digit b ≡ true
 unfolding digit
 is-digit b h l = rw (le-leb 48 b h, le-leb b 57 l)
 
@@ -28,7 +29,7 @@ unfolding digit
 above-digits b h = rw (le-leb 48 b (omega arith), lt-leb b 57 h)
 
 -- more digits make no smaller number
-grows : (v : ℕ) (l : List ℕ) → v ≤ digitsFrom v l .value
+pub grows : (v : ℕ) (l : List ℕ) → v ≤ digitsFrom v l .value
 unfolding digitsFrom
 grows v [] = omega arith
 grows v (b ∷ l) = by (digit b) (grows (10 * v + (b - 48)) l)
@@ -73,13 +74,13 @@ module _ (line : List ℕ) (at v high : ℕ) where
         rw (along .same, here line next h, is-digit (getD line next 0) low up, lt-leb (digitsFrom more (drop (next + 1) line) .value) high large)
 
     pub beyond : next < length line → 48 ≤ getD line next 0 → getD line next 0 ≤ 57
-        → high < 10 * value + (getD line next 0 - 48) → DigitsIs line at v high Missing
-    unfolding numberAt
-    beyond h low up l = record { reads = sym (too-large h low up l); inside = λ from h. tt }
+        → high < 10 * value + (getD line next 0 - 48) → DigitsIs line at v high (Refused 4)
+    unfolding numberAt orRefused
+    beyond h low up l = record { reads = ap orRefused (sym (too-large h low up l)); inside = λ from h. tt }
 
     stopped-at : digitsFrom value (drop next line) ≡ record { value = value; rest = drop next line }
         → DigitsIs line at v high (At value next)
-    unfolding numberAt upTo
+    unfolding numberAt upTo orRefused found
     stopped-at e = record {
       reads = rw (along .same, e, le-leb value high (along .small));
       inside = λ from l. (omega (arith, along .behind), along .inside, along .large, along .small);
@@ -103,7 +104,7 @@ module _ (line : List ℕ) (at v high : ℕ) where
 
 weaken : (line : List ℕ) (at low v high : ℕ) (r : FoundNumber) → low ≤ v → NumberInside line at v high r → NumberInside line at low high r
 weaken line at low v high (At w next) l h = (h .0, h .1, omega (arith, h .2), h .3)
-weaken line at low v high Missing l h = tt
+weaken line at low v high (Refused k) l h = tt
 
 in-range : (low high : ℕ) (r : Read ℕ) → low ≤ r .value
     → upTo high r ≡ cond (leb low (r .value) && leb (r .value) high) (found (r .value) (r .rest)) none
@@ -111,23 +112,23 @@ unfolding upTo
 in-range low high r l = rw (le-leb low (r .value) l)
 
 module _ (line : List ℕ) (at low high : ℕ) where
-  none-there : number low high (drop at line) ≡ none → NumberIs line at low high Missing
-  unfolding numberAt
-  none-there e = record { reads = sym e; inside = tt }
+  none-there : number low high (drop at line) ≡ none → NumberIs line at low high (Refused 4)
+  unfolding numberAt orRefused
+  none-there e = record { reads = ap orRefused (sym e); inside = tt }
 
-  pub no-byte : length line ≤ at → NumberIs line at low high Missing
+  pub no-byte : length line ≤ at → NumberIs line at low high (Refused 4)
   unfolding number natural andThen
   no-byte h = none-there (rw (drop-of-length-le line h))
 
   module _ (inside : at < length line) where
-    no-digit : (getD line at 0 ≡ 48 → ⊥) → digit (getD line at 0) ≡ false → NumberIs line at low high Missing
+    no-digit : (getD line at 0 ≡ 48 → ⊥) → digit (getD line at 0) ≡ false → NumberIs line at low high (Refused 4)
     unfolding number natural andThen
     no-digit ne e = none-there (rw (here line at inside, ne-eqb (getD line at 0) 48 ne, e))
 
-    pub below-number : getD line at 0 < 48 → NumberIs line at low high Missing
+    pub below-number : getD line at 0 < 48 → NumberIs line at low high (Refused 4)
     below-number h = no-digit (λ e. omega arith) (below-digits _ h)
 
-    pub above-number : 57 < getD line at 0 → NumberIs line at low high Missing
+    pub above-number : 57 < getD line at 0 → NumberIs line at low high (Refused 4)
     above-number h = no-digit (λ e. omega arith) (above-digits _ h)
 
     pub from-digits : low ≤ 1 → 48 < getD line at 0 → getD line at 0 ≤ 57
@@ -139,8 +140,9 @@ module _ (line : List ℕ) (at low high : ℕ) where
         record {
           reads =
               is .reads
-              ∙ in-range low high (digitsFrom v (drop (at + 1) line)) (omega (arith, grows v (drop (at + 1) line)))
-              ∙ sym (rw (here line at inside, e, is-digit (getD line at 0) (omega arith) high-end));
+              ∙ ap orRefused
+              (in-range low high (digitsFrom v (drop (at + 1) line)) (omega (arith, grows v (drop (at + 1) line)))
+              ∙ sym (rw (here line at inside, e, is-digit (getD line at 0) (omega arith) high-end)));
           inside = weaken line at low v high r (omega arith) (is .inside at (omega arith));
         }
 
@@ -149,11 +151,11 @@ module _ (line : List ℕ) (at low high : ℕ) where
       unfolding number natural andThen found
       read-zero = rw (here line at inside, eq-eqb (getD line at 0) 48 zero-there)
 
-      pub zero-refused : 0 < low → NumberIs line at low high Missing
+      pub zero-refused : 0 < low → NumberIs line at low high (Refused 4)
       zero-refused h = none-there (rw (read-zero, lt-leb low 0 h))
 
       pub zero-read : low ≤ 0 → NumberIs line at low high (At 0 (at + 1))
-      unfolding numberAt
+      unfolding numberAt orRefused found
       zero-read h = record {
         reads = sym (rw (read-zero, le-leb low 0 h, le-leb 0 high (omega arith)));
         inside = (omega arith, omega arith, omega arith, omega arith);

@@ -18,7 +18,9 @@ use Rattle.lexer.specs.declared.number.FoundNumber.{FoundNumber}
 use Rattle.lexer.specs.declared.number.FoundNumber.the-variants as numbers
 use Rattle.lexer.specs.declared.number.FoundFigure.{FoundFigure}
 use Rattle.lexer.specs.declared.number.FoundFigure.the-variants as signed
+use Rattle.lexer.specs.Answered.{orRefused}
 use Rattle.lexer.specs.Placed.{numberAt, figureAt, NumberInside, NumberIs, SpacedIs, FigureIs, FigureInside}
+use Rattle.lexer.proofs.Laws.Answers.{back, was-read}
 use Rattle.lexer.proofs.Laws.Places.{first-byte, behind-first}
 
 -- ---- a space in front
@@ -39,46 +41,46 @@ module _ {A : Type 0} (read : List ℕ → Option (Read A)) (line : List ℕ) (a
 -- ---- a number
 
 module _ (line : List ℕ) (at : ℕ) where
-  unspaced : spaced (number 0 99) (drop at line) ≡ none → SpacedIs line at numbers.Missing
-  unfolding numberAt
-  unspaced e = record { reads = sym e; inside = tt }
+  unspaced : spaced (number 0 99) (drop at line) ≡ none → SpacedIs line at (numbers.Refused 4)
+  unfolding numberAt orRefused
+  unspaced e = record { reads = ap orRefused (sym e); inside = tt }
 
-  pub number-past : length line ≤ at → SpacedIs line at numbers.Missing
+  pub number-past : length line ≤ at → SpacedIs line at (numbers.Refused 4)
   number-past h = unspaced (no-space-left (number 0 99) line at h)
 
-  pub number-unspaced : (getD line at 0 ≡ 32 → ⊥) → SpacedIs line at numbers.Missing
+  pub number-unspaced : (getD line at 0 ≡ 32 → ⊥) → SpacedIs line at (numbers.Refused 4)
   number-unspaced ne = unspaced (no-space (number 0 99) line at ne)
 
   nearer : (r : FoundNumber) → NumberInside line (at + 1) 0 99 r → NumberInside line at 0 99 r
   nearer (numbers.At v next) h = (omega (arith, h .0), h .1, h .2, h .3)
-  nearer numbers.Missing h = tt
+  nearer (numbers.Refused k) h = tt
 
   pub number-spaced : getD line at 0 ≡ 32 → (r : FoundNumber) → NumberIs line (at + 1) 0 99 r → SpacedIs line at r
-  number-spaced e r is = record { reads = is .reads ∙ sym (space-read (number 0 99) line at e); inside = nearer r (is .inside) }
+  number-spaced e r is = record { reads = is .reads ∙ ap orRefused (sym (space-read (number 0 99) line at e)); inside = nearer r (is .inside) }
 
 -- ---- what a reading that was taken apart says
 
-module _ (line : List ℕ) (r : FoundNumber) (o : Option (Read ℕ)) (reads : numberAt line r ≡ o) where
-  pub number-missed : r ≡ numbers.Missing → o ≡ none
-  unfolding numberAt
-  number-missed e = sym reads ∙ ap (numberAt line) e
+module _ (line : List ℕ) (r : FoundNumber) (o : Option (Read ℕ)) (reads : numberAt line r ≡ orRefused o) where
+  pub number-missed : (k : ℕ) → r ≡ numbers.Refused k → o ≡ none
+  unfolding numberAt back
+  number-missed k e = was-read (numberAt line) o r _ reads e
 
   pub number-found : (v next : ℕ) → r ≡ numbers.At v next → o ≡ found v (drop next line)
-  unfolding numberAt
-  number-found v next e = sym reads ∙ ap (numberAt line) e
+  unfolding numberAt back found
+  number-found v next e = was-read (numberAt line) o r _ reads e
 
 pub number-inside : (line : List ℕ) (at low high : ℕ) (r : FoundNumber) → NumberInside line at low high r
     → (v next : ℕ) → r ≡ numbers.At v next → (at < next) × (next ≤ length line) × (low ≤ v) × (v ≤ high)
 number-inside line at low high r inside v next e = subst (NumberInside line at low high) e inside
 
-module _ (line : List ℕ) (r : FoundFigure) (o : Option (Read Figure)) (reads : figureAt line r ≡ o) where
-  pub figure-missed : r ≡ signed.Missing → o ≡ none
-  unfolding figureAt
-  figure-missed e = sym reads ∙ ap (figureAt line) e
+module _ (line : List ℕ) (r : FoundFigure) (o : Option (Read Figure)) (reads : figureAt line r ≡ orRefused o) where
+  pub figure-missed : (k : ℕ) → r ≡ signed.Refused k → o ≡ none
+  unfolding figureAt back
+  figure-missed k e = was-read (figureAt line) o r _ reads e
 
   pub figure-found : (v : ℤ) (next : ℕ) → r ≡ signed.At v next → o ≡ found v (drop next line)
-  unfolding figureAt
-  figure-found v next e = sym reads ∙ ap (figureAt line) e
+  unfolding figureAt back found
+  figure-found v next e = was-read (figureAt line) o r _ reads e
 
 pub figure-inside : (line : List ℕ) (at : ℕ) (r : FoundFigure) → FigureInside line at r
     → (v : ℤ) (next : ℕ) → r ≡ signed.At v next → (at < next) × (next ≤ length line)
@@ -97,18 +99,18 @@ pub positive-fits : (n : ℕ) → n ≤ 2147483647 → SFits w32 (pos n)
 positive-fits n h = record { sfits = omega arith }
 
 module _ (line : List ℕ) (at : ℕ) where
-  no-figure : spaced figureIn (drop at line) ≡ none → FigureIs line at signed.Missing
-  unfolding figureAt
-  no-figure e = record { reads = sym e; inside = tt }
+  no-figure : spaced figureIn (drop at line) ≡ none → FigureIs line at (signed.Refused 4)
+  unfolding figureAt orRefused
+  no-figure e = record { reads = ap orRefused (sym e); inside = tt }
 
-  pub figure-past : length line ≤ at → FigureIs line at signed.Missing
+  pub figure-past : length line ≤ at → FigureIs line at (signed.Refused 4)
   figure-past h = no-figure (no-space-left figureIn line at h)
 
-  pub figure-unspaced : (getD line at 0 ≡ 32 → ⊥) → FigureIs line at signed.Missing
+  pub figure-unspaced : (getD line at 0 ≡ 32 → ⊥) → FigureIs line at (signed.Refused 4)
   figure-unspaced ne = no-figure (no-space figureIn line at ne)
 
   module _ (space : getD line at 0 ≡ 32) where
-    pub figure-cut : length line ≤ at + 1 → FigureIs line at signed.Missing
+    pub figure-cut : length line ≤ at + 1 → FigureIs line at (signed.Refused 4)
     unfolding figureIn number natural andThen
     figure-cut h = no-figure (space-read figureIn line at space ∙ rw (drop-of-length-le line h))
 
@@ -127,29 +129,29 @@ module _ (line : List ℕ) (at : ℕ) where
     plain-read ne = space-read figureIn line at space ∙ rw (first-byte line (at + 1), ne-eqb (getD line (at + 1) 0) 45 ne)
 
     module _ (minus : getD line (at + 1) 0 ≡ 45) (r : FoundNumber) (is : NumberIs line (at + 2) 1 2147483648 r) where
-      pub minus-missed : r ≡ numbers.Missing → FigureIs line at signed.Missing
+      pub minus-missed : (k : ℕ) → r ≡ numbers.Refused k → FigureIs line at (signed.Refused 4)
       unfolding andThen
-      minus-missed e = no-figure (minus-read minus ∙ rw (number-missed line r _ (is .reads) e))
+      minus-missed k e = no-figure (minus-read minus ∙ rw (number-missed line r _ (is .reads) k e))
 
       pub minus-found : (v next : ℕ) → r ≡ numbers.At v next → FigureIs line at (signed.At (toZ w32 (4294967295 - (v - 1))) next)
-      unfolding andThen figureAt found
+      unfolding andThen figureAt found orRefused
       minus-found v next e =
           let in-line = number-inside line (at + 2) 1 2147483648 r (is .inside) v next e in
           record {
-            reads = rw (below-zero v (in-line .2) (in-line .3)) (sym (minus-read minus ∙ rw (number-found line r _ (is .reads) v next e)));
+            reads = rw (below-zero v (in-line .2) (in-line .3), minus-read minus, number-found line r (number 1 2147483648 (drop (at + 2) line)) (is .reads) v next e);
             inside = (omega (arith, in-line .0), in-line .1);
           }
 
     module _ (plain : getD line (at + 1) 0 ≡ 45 → ⊥) (r : FoundNumber) (is : NumberIs line (at + 1) 0 2147483647 r) where
-      pub plain-missed : r ≡ numbers.Missing → FigureIs line at signed.Missing
+      pub plain-missed : (k : ℕ) → r ≡ numbers.Refused k → FigureIs line at (signed.Refused 4)
       unfolding andThen
-      plain-missed e = no-figure (plain-read plain ∙ rw (number-missed line r _ (is .reads) e))
+      plain-missed k e = no-figure (plain-read plain ∙ rw (number-missed line r _ (is .reads) k e))
 
       pub plain-found : (v next : ℕ) → r ≡ numbers.At v next → FigureIs line at (signed.At (toZ w32 v) next)
-      unfolding andThen figureAt found
+      unfolding andThen figureAt found orRefused
       plain-found v next e =
           let in-line = number-inside line (at + 1) 0 2147483647 r (is .inside) v next e in
           record {
-            reads = rw (toZ-pos w32 v (omega (arith, in-line .3))) (sym (plain-read plain ∙ rw (number-found line r _ (is .reads) v next e)));
+            reads = rw (toZ-pos w32 v (omega (arith, in-line .3)), plain-read plain, number-found line r (number 0 2147483647 (drop (at + 1) line)) (is .reads) v next e);
             inside = (omega (arith, in-line .0), in-line .1);
           }

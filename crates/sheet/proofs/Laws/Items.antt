@@ -11,15 +11,18 @@ use native.Mathlib.Omega.{arith}
 use lib.Dec.{leb}
 use lib.ListN.{length, getD, drop, length-append, drop-of-length-le}
 use borrow.Author.Tests.{leb-true, leb-false, eq-eqb, ne-eqb}
-use Rattle.model.specs.Forms.{Item, station, times, Items, next, repeated, expandItem, expand, Read, found, andThen, spaced, number, natural, itemIn, itemsIn}
+use Rattle.model.specs.Forms.{Item, station, times, Items, next, repeated, expandItem, expand, Read, found, andThen, spaced, number, natural, timesIn, itemIn, itemsIn}
 use Rattle.model.proofs.Sheet.Limits.{length-repeated}
 use Rattle.lexer.specs.declared.number.FoundNumber.{FoundNumber}
 use Rattle.lexer.specs.declared.number.FoundNumber.the-variants as numbers
 use Rattle.sheet.specs.declared.item.Counted.{Counted}
-use Rattle.sheet.specs.declared.item.Counted.the-variants.{Steps, Missing}
-use Rattle.lexer.specs.Placed.{numberAt, NumberIs}
+use Rattle.sheet.specs.declared.item.Counted.the-variants.{Steps, Refused}
+use Rattle.lexer.specs.Answered.{orRefused}
+use Rattle.lexer.specs.Placed.{NumberIs}
 use Rattle.sheet.specs.Counts.{capped, countedAt, CountedInside, sized, TimesIs, ItemIs, ItemsAre}
+use Rattle.lexer.proofs.Laws.Answers.{back, was-read}
 use Rattle.lexer.proofs.Laws.Places.{first-byte, behind-first, left-over}
+use Rattle.lexer.proofs.Laws.Spaced.{number-missed, number-found, number-inside}
 
 -- ---- the steps of items, by their number
 
@@ -94,67 +97,93 @@ sized-next fuel (some r) = by (itemsIn fuel (r .rest))
         omega (arith, length-append (expandItem (r .value)) (expand (q .value))) in
         ap (λ (v : ℕ). found v (q .rest)) e
 
+-- ---- what a count that was taken apart says
+
+module _ (line : List ℕ) (r : Counted) (o : Option (Read ℕ)) (reads : countedAt line r ≡ orRefused o) where
+  pub counted-missed : (k : ℕ) → r ≡ Refused k → o ≡ none
+  unfolding countedAt back
+  counted-missed k e = was-read (countedAt line) o r _ reads e
+
+  pub counted-found : (c after : ℕ) → r ≡ Steps c after → o ≡ found c (drop after line)
+  unfolding countedAt back found
+  counted-found c after e = was-read (countedAt line) o r _ reads e
+
 -- ---- an item
 
 module _ (line : List ℕ) (at : ℕ) where
-  item-is : (r : Counted) → CountedInside line at r
-      → ((fuel : ℕ) → length (drop at line) ≤ fuel → sized expandItem (itemIn (suc fuel) (drop at line)) ≡ countedAt line r)
-      → ItemIs line at r
-  item-is r inside reads = record { reads = by; inside = inside }
+  -- the model's reader gives o by the steps, if its fuel exceeds the bytes left
+  abbrev ItemGives : Option (Read ℕ) → Type 0
+  ItemGives o = (fuel : ℕ) → length (drop at line) ≤ fuel → sized expandItem (itemIn (suc fuel) (drop at line)) ≡ o
+
+  item-is : (o : Option (Read ℕ)) → ItemGives o → (r : Counted) → CountedInside line at r → countedAt line r ≡ orRefused o → ItemIs line at r
+  item-is o gives r inside e = record { reads = by; inside = inside }
     where
-      by : (fuel : ℕ) → length (drop at line) < fuel → countedAt line r ≡ sized expandItem (itemIn fuel (drop at line))
+      by : (fuel : ℕ) → length (drop at line) < fuel → countedAt line r ≡ orRefused (sized expandItem (itemIn fuel (drop at line)))
       by zero l = absurd (omega arith)
-      by (suc fuel) l = sym (reads fuel (omega arith))
+      by (suc fuel) l = e ∙ ap orRefused (sym (gives fuel (omega arith)))
 
-  pub no-item : length line ≤ at → ItemIs line at Missing
-  unfolding itemIn number natural andThen sized countedAt
-  no-item h = item-is Missing tt (λ fuel l. rw (drop-of-length-le line h))
+  item-refused : ItemGives none → ItemIs line at (Refused 4)
+  unfolding countedAt orRefused
+  item-refused gives = item-is none gives (Refused 4) tt refl
 
-  module _ (no-bracket : getD line at 0 ≡ 40 → ⊥) (r : FoundNumber) (is : NumberIs line at 0 99 r) where
-    pub as-number : (fuel : ℕ) → itemIn (suc fuel) (drop at line) ≡ andThen (numberAt line r) λ i rest. found (station i) rest
+  item-counted : (c after : ℕ) → ItemGives (found c (drop after line)) → CountedInside line at (Steps c after) → ItemIs line at (Steps c after)
+  unfolding countedAt orRefused found
+  item-counted c after gives inside = item-is (found c (drop after line)) gives (Steps c after) inside refl
+
+  pub no-item : length line ≤ at → ItemIs line at (Refused 4)
+  unfolding itemIn number natural andThen sized
+  no-item h = item-refused (λ fuel l. rw (drop-of-length-le line h))
+
+  module _ (no-bracket : getD line at 0 ≡ 40 → ⊥) where
+    pub as-number : (fuel : ℕ) → itemIn (suc fuel) (drop at line) ≡ andThen (number 0 99 (drop at line)) λ i rest. found (station i) rest
     unfolding itemIn
-    as-number fuel = rw (first-byte line at, ne-eqb (getD line at 0) 40 no-bracket, is .reads)
+    as-number fuel = rw (first-byte line at, ne-eqb (getD line at 0) 40 no-bracket)
 
-    pub no-number : r ≡ numbers.Missing → ItemIs line at Missing
-    unfolding numberAt andThen sized countedAt
-    no-number e = item-is Missing tt (λ fuel l. rw (as-number fuel, e))
+    module _ (r : FoundNumber) (is : NumberIs line at 0 99 r) where
+      pub no-number : (k : ℕ) → r ≡ numbers.Refused k → ItemIs line at (Refused 4)
+      unfolding andThen sized
+      no-number k e = item-refused (λ fuel l. rw (as-number fuel, number-missed line r _ (is .reads) k e))
 
-    pub one-step : (v after : ℕ) → r ≡ numbers.At v after → ItemIs line at (Steps 1 after)
-    unfolding numberAt andThen sized countedAt found expandItem
-    one-step v after e =
-        let inside = rw e at (is .inside) in
-        item-is (Steps 1 after) (inside .0, inside .1, omega arith) (λ fuel l. rw (as-number fuel, e))
+      pub one-step : (v after : ℕ) → r ≡ numbers.At v after → ItemIs line at (Steps 1 after)
+      unfolding andThen sized found expandItem
+      one-step v after e =
+          let inside = number-inside line at 0 99 r (is .inside) v after e in
+          item-counted 1 after (λ fuel l. rw (as-number fuel, number-found line r _ (is .reads) v after e))
+          (inside .0, inside .1, omega arith)
 
-  module _ (bracket : getD line at 0 ≡ 40) (r : FoundNumber) (is : TimesIs line at r) where
+  module _ (bracket : getD line at 0 ≡ 40) where
     pub as-times : (fuel : ℕ)
-        → itemIn (suc fuel) (drop at line) ≡ andThen (numberAt line r) λ k inner. andThen (itemsIn fuel inner) λ is rest. found (times k is) rest
+        → itemIn (suc fuel) (drop at line)
+        ≡ andThen (timesIn (drop at line)) λ k inner. andThen (itemsIn fuel inner) λ is rest. found (times k is) rest
     unfolding itemIn
-    as-times fuel = rw (first-byte line at, eq-eqb (getD line at 0) 40 bracket, is .reads)
+    as-times fuel = rw (first-byte line at, eq-eqb (getD line at 0) 40 bracket)
 
-    pub no-times : r ≡ numbers.Missing → ItemIs line at Missing
-    unfolding numberAt andThen sized countedAt
-    no-times e = item-is Missing tt (λ fuel l. rw (as-times fuel, e))
+    module _ (r : FoundNumber) (is : TimesIs line at r) where
+      pub no-times : (k : ℕ) → r ≡ numbers.Refused k → ItemIs line at (Refused 4)
+      unfolding andThen sized
+      no-times k e = item-refused (λ fuel l. rw (as-times fuel, number-missed line r _ (is .reads) k e))
 
-    module _ (k inner : ℕ) (e : r ≡ numbers.At k inner) (q : Counted) (items : ItemsAre line inner q) where
-      by-items : (fuel : ℕ) → length (drop at line) ≤ fuel
-          → sized expandItem (itemIn (suc fuel) (drop at line)) ≡ fold k (countedAt line q)
-      unfolding numberAt andThen found
-      by-items fuel l =
-          let inside = rw e at (is .inside) in
-          let fewer : length (drop inner line) < fuel = omega (arith, left-over line at, left-over line inner) in
-          rw (as-times fuel, e) (sized-times k (inside .2) (itemsIn fuel (drop inner line)) ∙ ap (fold k) (sym (items .reads fuel fewer)))
+      module _ (k inner : ℕ) (e : r ≡ numbers.At k inner) (q : Counted) (items : ItemsAre line inner q) where
+        inside : (at < inner) × (inner ≤ length line) × (1 ≤ k) × (k ≤ 99999)
+        inside = number-inside line at 1 99999 r (is .inside) k inner e
 
-      pub no-inner : q ≡ Missing → ItemIs line at Missing
-      unfolding fold countedAt
-      no-inner d = item-is Missing tt (λ fuel l. by-items fuel l ∙ ap (λ (x : Counted). fold k (countedAt line x)) d)
+        by-items : (x : Counted) → q ≡ x → ItemGives (fold k (back (countedAt line x)))
+        unfolding andThen found
+        by-items x d fuel l =
+            let fewer : length (drop inner line) < fuel = omega (arith, inside .0, inside .1, left-over line at, left-over line inner) in
+            rw (as-times fuel, number-found line r _ (is .reads) k inner e)
+            (sized-times k (inside .2) (itemsIn fuel (drop inner line)) ∙ ap (fold k) (was-read (countedAt line) _ q x (items .reads fuel fewer) d))
 
-      pub repeats : (c after m : ℕ) → q ≡ Steps c after → m ≡ capped (k * c) → ItemIs line at (Steps m after)
-      unfolding fold countedAt found
-      repeats c after m d g =
-          let outer = rw e at (is .inside) in
-          let inside = rw d at (items .inside) in
-          item-is (Steps m after) (omega arith, inside .1, omega arith)
-          (λ fuel l. by-items fuel l ∙ ap (λ (x : Counted). fold k (countedAt line x)) d ∙ ap (λ (v : ℕ). found v (drop after line)) (sym g))
+        pub no-inner : (j : ℕ) → q ≡ Refused j → ItemIs line at (Refused 4)
+        unfolding fold countedAt back
+        no-inner j d = item-refused (by-items _ d)
+
+        pub repeats : (c after m : ℕ) → q ≡ Steps c after → m ≡ capped (k * c) → ItemIs line at (Steps m after)
+        unfolding fold countedAt back found
+        repeats c after m d g =
+            let behind = rw d at (items .inside) in
+            item-counted m after (λ fuel l. by-items _ d fuel l ∙ ap (λ (v : ℕ). found v (drop after line)) (sym g))
+            (omega (arith, inside .0), behind .1, omega arith)
 
 -- ---- a list of items
 
@@ -174,50 +203,56 @@ begun line at = record {
 }
 
 module _ (line : List ℕ) (at place total : ℕ) (along : Along line at place total) where
-  items-are : (r : Counted) → CountedInside line at r
-      → ((fuel : ℕ) → length (drop place line) ≤ fuel → more total (sized expand (itemsIn (suc fuel) (drop place line))) ≡ countedAt line r)
-      → ItemsAre line at r
-  items-are r inside reads = record { reads = λ fuel l. from (along .reads fuel l .0) (along .reads fuel l .1) (along .reads fuel l .2); inside = inside }
-    where
-      from : {o : Option (Read ℕ)} (k : ℕ) → length (drop place line) < k → o ≡ more total (sized expand (itemsIn k (drop place line)))
-          → countedAt line r ≡ o
-      from zero l e = absurd (omega arith)
-      from (suc k) l e = sym (e ∙ reads k (omega arith))
+  -- the model's reader gives o from `place` on, by the steps and `total` more
+  abbrev ItemsGive : Option (Read ℕ) → Type 0
+  ItemsGive o = (fuel : ℕ) → length (drop place line) ≤ fuel → more total (sized expand (itemsIn (suc fuel) (drop place line))) ≡ o
 
-  pub no-more : length line ≤ place → ItemsAre line at Missing
-  unfolding itemsIn spaced andThen sized more countedAt
-  no-more h = items-are Missing tt (λ fuel l. rw (drop-of-length-le line h))
+  items-are : (o : Option (Read ℕ)) → ItemsGive o → (r : Counted) → CountedInside line at r → countedAt line r ≡ orRefused o → ItemsAre line at r
+  items-are o gives r inside e = record { reads = λ fuel l. from (along .reads fuel l .0) (along .reads fuel l .1) (along .reads fuel l .2); inside = inside }
+    where
+      from : {p : Option (Read ℕ)} (k : ℕ) → length (drop place line) < k → p ≡ more total (sized expand (itemsIn k (drop place line)))
+          → countedAt line r ≡ orRefused p
+      from zero l q = absurd (omega arith)
+      from (suc k) l q = e ∙ ap orRefused (sym (q ∙ gives k (omega arith)))
+
+  items-refused : ItemsGive none → ItemsAre line at (Refused 4)
+  unfolding countedAt orRefused
+  items-refused gives = items-are none gives (Refused 4) tt refl
+
+  pub no-more : length line ≤ place → ItemsAre line at (Refused 4)
+  unfolding itemsIn spaced andThen sized more
+  no-more h = items-refused (λ fuel l. rw (drop-of-length-le line h))
 
   module _ (inside : place < length line) where
     pub closed : getD line place 0 ≡ 41 → ItemsAre line at (Steps total (place + 1))
-    unfolding itemsIn sized more countedAt found expand
+    unfolding itemsIn sized more countedAt orRefused found expand
     closed e =
         let same : capped (total + 0) ≡ total = omega (arith, along .small) in
-        items-are (Steps total (place + 1)) (omega (arith, along .behind), omega arith, along .small)
+        items-are (found total (drop (place + 1) line))
         (λ fuel l. rw (first-byte line place, eq-eqb (getD line place 0) 41 e, behind-first line place) (ap (λ (v : ℕ). found v (drop (place + 1) line)) same))
+        (Steps total (place + 1)) (omega (arith, along .behind), omega arith, along .small) refl
 
     module _ (unclosed : getD line place 0 ≡ 41 → ⊥) where
-      pub no-space : (getD line place 0 ≡ 32 → ⊥) → ItemsAre line at Missing
-      unfolding itemsIn spaced andThen sized more countedAt
+      pub no-space : (getD line place 0 ≡ 32 → ⊥) → ItemsAre line at (Refused 4)
+      unfolding itemsIn spaced andThen sized more
       no-space ne =
-          items-are Missing tt (λ fuel l. rw (first-byte line place, ne-eqb (getD line place 0) 41 unclosed, ne-eqb (getD line place 0) 32 ne))
+          items-refused (λ fuel l. rw (first-byte line place, ne-eqb (getD line place 0) 41 unclosed, ne-eqb (getD line place 0) 32 ne))
 
       module _ (space : getD line place 0 ≡ 32) (q : Counted) (item : ItemIs line (place + 1) q) where
-        by-item : (fuel : ℕ) → length (drop place line) ≤ fuel
-            → sized expand (itemsIn (suc fuel) (drop place line)) ≡ joined fuel (countedAt line q)
+        by-item : (x : Counted) → q ≡ x → (fuel : ℕ) → length (drop place line) ≤ fuel
+            → sized expand (itemsIn (suc fuel) (drop place line)) ≡ joined fuel (back (countedAt line x))
         unfolding itemsIn spaced
-        by-item fuel l =
+        by-item x d fuel l =
             let fewer : length (drop (place + 1) line) < fuel = omega (arith, left-over line place, left-over line (place + 1)) in
             rw (first-byte line place, ne-eqb (getD line place 0) 41 unclosed, eq-eqb (getD line place 0) 32 space, behind-first line place)
-            (sized-next fuel (itemIn fuel (drop (place + 1) line)) ∙ ap (joined fuel) (sym (item .reads fuel fewer)))
+            (sized-next fuel (itemIn fuel (drop (place + 1) line)) ∙ ap (joined fuel) (was-read (countedAt line) _ q x (item .reads fuel fewer) d))
 
-        pub item-missing : q ≡ Missing → ItemsAre line at Missing
-        unfolding joined countedAt more
-        item-missing d =
-            items-are Missing tt (λ fuel l. ap (more total) (by-item fuel l ∙ ap (λ (x : Counted). joined fuel (countedAt line x)) d))
+        pub item-missing : (k : ℕ) → q ≡ Refused k → ItemsAre line at (Refused 4)
+        unfolding joined countedAt back more
+        item-missing k d = items-refused (λ fuel l. ap (more total) (by-item _ d fuel l))
 
         pub again : (c after m : ℕ) → q ≡ Steps c after → m ≡ capped (total + c) → Along line at after m
-        unfolding joined countedAt found
+        unfolding joined countedAt back found
         again c after m d g =
             let within = rw d at (item .inside) in
             record {
@@ -234,7 +269,7 @@ module _ (line : List ℕ) (at place total : ℕ) (along : Along line at place t
                 let within = rw d at (item .inside) in (
                   k,
                   omega (arith, left-over line place, left-over line after),
-                  e ∙ ap (more total) (by-item k (omega arith) ∙ ap (λ (x : Counted). joined k (countedAt line x)) d)
+                  e ∙ ap (more total) (by-item _ d k (omega arith))
                       ∙ more-twice total c _ ∙ ap (λ (v : ℕ). more v (sized expand (itemsIn k (drop after line)))) (sym g),
                 )
 

@@ -1,111 +1,83 @@
--- A text in front of some bytes, and "(times k " at a place of a line.
--- Relies on the lexer's Places and Spaced and the model's `behind` and `timesIn`; the proof of item::times relies on it.
+-- "(times k " at a place of a line.
+-- Relies on the lexer's Places, Behind and Spaced and the model's `timesIn`; the proof of item::times and the walk over items
+-- rely on it.
 use mathlib.Core.Path.{_≡_, refl, sym, ap, _∙_}
-use mathlib.Core.Bool.{Bool, true, false, cond}
-use mathlib.Core.List.{List, [], _∷_}
-use mathlib.Core.Option.{none, some}
-use Prim.Native.Nat.{ℕ, _+_, _-_, _≤_, _<_}
+use mathlib.Core.Bool.{cond}
+use mathlib.Core.List.{List}
+use mathlib.Core.Option.{Option, none, some}
+use Prim.Native.Nat.{ℕ, _+_, _≤_}
 use native.Mathlib.Omega.{arith}
 use lib.Dec.{eqb}
-use lib.ListN.{length, getD, take, drop, List·getD-eq-default}
+use lib.ListN.{length, getD, drop, List·getD-eq-default}
 use lib.Seq.{drop-drop}
-use borrow.Author.Tests.{eq-eqb, ne-eqb, eqb-true}
+use borrow.Author.Tests.{eq-eqb, ne-eqb}
+use Rattle.model.specs.Bytes.{byte}
 use Rattle.model.specs.Show.{text, textFrom}
-use Rattle.model.specs.Forms.{found, andThen, behind, timesIn}
+use Rattle.model.specs.Forms.{Read, found, andThen, number, behind, timesIn}
 use Rattle.lexer.specs.declared.number.FoundNumber.{FoundNumber}
-use Rattle.lexer.specs.declared.number.FoundNumber.the-variants.{At, Missing}
+use Rattle.lexer.specs.declared.number.FoundNumber.the-variants.{At, Refused}
+use Rattle.lexer.specs.declared.word.FoundWord.{FoundWord}
+use Rattle.lexer.specs.declared.word.FoundWord.the-variants as words
+use Rattle.lexer.specs.Answered.{orRefused}
 use Rattle.lexer.specs.Placed.{numberAt, NumberIs}
+use Rattle.lexer.specs.Words.{WordIs}
+use Rattle.lexer.proofs.Laws.Behind.{text-found, word-missed, word-found, word-inside}
+use Rattle.lexer.proofs.Laws.Given.{never, passed, through}
 use Rattle.lexer.proofs.Laws.Places.{first-byte, left-over}
 use Rattle.lexer.proofs.Laws.Spaced.{number-missed, number-found, number-inside}
 use Rattle.sheet.specs.Counts.{TimesIs}
 
--- ---- a text in front
-
-pub text-there : (w l : List ℕ) → take (length w) l ≡ w → behind w l ≡ some (drop (length w) l)
-unfolding behind
-text-there [] l e = refl
-text-there (a ∷ w) [] e = absurd (let z : _≡_ {A = ℕ} 0 1 = cc in omega arith)
-text-there (a ∷ w) (b ∷ l) e =
-    let head : a ≡ b = cc in
-    let tail : take (length w) l ≡ w = cc in
-    rw (eq-eqb a b head) (text-there w l tail)
-
-pub text-not-there : (w l : List ℕ) → (take (length w) l ≡ w → ⊥) → behind w l ≡ none
-unfolding behind
-text-not-there [] l ne = absurd (ne refl)
-text-not-there (a ∷ w) [] ne = refl
-text-not-there (a ∷ w) (b ∷ l) ne = by (eqb a b) refl (λ e. text-not-there w l (more e))
-  where
-    more : eqb a b ≡ true → take (length w) l ≡ w → ⊥
-    more e q = let same : a ≡ b = eqb-true a b e in ne (cc)
-
-    by : (t : Bool) → eqb a b ≡ t → (eqb a b ≡ true → behind w l ≡ none) → cond t (behind w l) none ≡ none
-    by true e h = h e
-    by false e h = refl
-
-pub text-cut : (w l : List ℕ) → length l < length w → behind w l ≡ none
-unfolding behind
-text-cut [] l h = absurd (omega arith)
-text-cut (a ∷ w) [] h = refl
-text-cut (a ∷ w) (b ∷ l) h = by (eqb a b) (text-cut w l (omega arith))
-  where
-    by : (t : Bool) → behind w l ≡ none → cond t (behind w l) none ≡ none
-    by true e = e
-    by false e = refl
-
--- ---- "(times k "
-
 module _ (line : List ℕ) (at : ℕ) where
-  no-times : timesIn (drop at line) ≡ none → TimesIs line at Missing
-  unfolding numberAt
-  no-times e = record { reads = sym e; inside = tt }
+  no-times : timesIn (drop at line) ≡ none → TimesIs line at (Refused 4)
+  unfolding numberAt orRefused
+  no-times e = record { reads = ap orRefused (sym e); inside = tt }
 
-  no-text : behind (text "(times ") (drop at line) ≡ none → TimesIs line at Missing
-  unfolding timesIn
-  no-text e = no-times (rw (e, timesIn))
+  module _ (word : FoundWord) (times : WordIs line at (text "(times ") word) where
+    pub times-other : (k : ℕ) → word ≡ words.Refused k → TimesIs line at (Refused 4)
+    unfolding timesIn
+    times-other k e = no-times (rw (word-missed line at _ word times k e, timesIn))
 
-  pub times-past : length line < at + 7 → TimesIs line at Missing
-  unfolding text textFrom
-  times-past h = no-text (text-cut (text "(times ") (drop at line) (omega (arith, left-over line at)))
+    module _ (digits : ℕ) (d : word ≡ words.At digits) (r : FoundNumber) (is : NumberIs line digits 1 99999 r) where
+      pub times-unnumbered : (k : ℕ) → r ≡ Refused k → TimesIs line at (Refused 4)
+      unfolding timesIn andThen
+      times-unnumbered k e =
+          no-times (rw (word-found line at _ word times digits d, timesIn, number-missed line r _ (is .reads) k e))
 
-  -- the bytes from `at` to `at + 7`, as the code compares them
-  module _ (part : List ℕ) (bytes : part ≡ take (at + 7 - at) (drop at line)) where
-    seven : part ≡ take 7 (drop at line)
-    seven = let both : at + 7 - at ≡ 7 = omega arith in bytes ∙ ap (λ (k : ℕ). take k (drop at line)) both
+      module _ (v next : ℕ) (e : r ≡ At v next) where
+        numbered : timesIn (drop at line) ≡ cond (eqb (getD line next 0) 32) (found v (drop next line)) none
+        unfolding timesIn andThen found
+        numbered =
+            rw (word-found line at _ word times digits d, timesIn, number-found line r _ (is .reads) v next e, first-byte line next)
 
-    pub times-other : (t : Bool) → t ≡ false → (part ≡ text "(times " → t ≡ true) → TimesIs line at Missing
-    unfolding text textFrom
-    times-other t e h = no-text (text-not-there (text "(times ") (drop at line) (λ q. never e (h (seven ∙ q))))
-      where
-        never : t ≡ false → t ≡ true → ⊥
-        never p q = let z : _≡_ {A = ℕ} 0 1 = cc in omega arith
+        pub times-unspaced : (getD line next 0 ≡ 32 → ⊥) → TimesIs line at (Refused 4)
+        times-unspaced ne = no-times (numbered ∙ rw (ne-eqb (getD line next 0) 32 ne))
 
-    module _ (word : part ≡ text "(times ") where
-      there : behind (text "(times ") (drop at line) ≡ some (drop (at + 7) line)
-      unfolding text textFrom
-      there = text-there (text "(times ") (drop at line) (sym seven ∙ word) ∙ ap some (drop-drop 7 at line)
+        pub times-ended : length line ≤ next → TimesIs line at (Refused 4)
+        times-ended h = times-unspaced (λ q. omega (arith, List·getD-eq-default line 0 h))
 
-      module _ (r : FoundNumber) (is : NumberIs line (at + 7) 1 99999 r) where
-        pub times-unnumbered : r ≡ Missing → TimesIs line at Missing
-        unfolding timesIn andThen
-        times-unnumbered e = no-times (rw (there, timesIn, number-missed line r _ (is .reads) e))
+        pub times-read : getD line next 0 ≡ 32 → TimesIs line at (At v next)
+        unfolding numberAt orRefused found
+        times-read q =
+            let in-line = number-inside line digits 1 99999 r (is .inside) v next e in
+            record {
+              reads = rw (numbered, eq-eqb (getD line next 0) 32 q);
+              inside = (omega (arith, in-line .0, word-inside line at _ word times digits d), in-line .1, in-line .2, in-line .3);
+            }
 
-        module _ (v next : ℕ) (e : r ≡ At v next) where
-          numbered : timesIn (drop at line) ≡ cond (eqb (getD line next 0) 32) (found v (drop next line)) none
-          unfolding timesIn andThen found
-          numbered = rw (there, timesIn, number-found line r _ (is .reads) v next e, first-byte line next)
+-- ---- a `times` that was read: its number stands behind the seven bytes of the word
 
-          pub times-unspaced : (getD line next 0 ≡ 32 → ⊥) → TimesIs line at Missing
-          times-unspaced ne = no-times (numbered ∙ rw (ne-eqb (getD line next 0) 32 ne))
-
-          pub times-ended : length line ≤ next → TimesIs line at Missing
-          times-ended h = times-unspaced (λ q. omega (arith, List·getD-eq-default line 0 h))
-
-          pub times-read : getD line next 0 ≡ 32 → TimesIs line at (At v next)
-          unfolding numberAt
-          times-read q =
-              let in-line = number-inside line (at + 7) 1 99999 r (is .inside) v next e in
-              record {
-                reads = sym (numbered ∙ rw (eq-eqb (getD line next 0) 32 q));
-                inside = (omega (arith, in-line .0), in-line .1, in-line .2, in-line .3);
-              }
+pub times-number : (line : List ℕ) (at : ℕ) (r : Read ℕ) → timesIn (drop at line) ≡ some r
+    → (number 1 99999 (drop (at + 7) line) ≡ some r) × (at + 7 ≤ length line)
+unfolding timesIn text textFrom
+times-number line at r e = by (behind (text "(times ") (drop at line)) refl e
+  where
+    by : (o : Option (List ℕ)) → behind (text "(times ") (drop at line) ≡ o
+        → elim o [ none ↦ none | some rest ↦ andThen (number 1 99999 rest) (λ k rest. cond (eqb (byte rest 0) 32) (found k rest) none) ] ≡ some r
+        → (number 1 99999 (drop (at + 7) line) ≡ some r) × (at + 7 ≤ length line)
+    by none b q = never r q
+    by (some rest) b q =
+        let there = text-found (text "(times ") (drop at line) rest b in
+        let t = through (number 1 99999 rest) (λ k rest. cond (eqb (byte rest 0) 32) (found k rest) none) r q in
+        let p = passed (eqb (byte (t .rest) 0) 32) (found (t .value) (t .rest)) r (t .goes) in
+        let place : rest ≡ drop (at + 7) line = there .0 ∙ drop-drop 7 at line in
+        (ap (number 1 99999) (sym place) ∙ t .read ∙ p .1, omega (arith, there .1, left-over line at))

@@ -4,9 +4,8 @@ use Prim.Native.Nat.{ℕ, _-_, _<_}
 use native.Mathlib.Omega.{arith}
 use lib.ListN.{length}
 use borrow.Author.Needs.{needs}
-use Rattle.sheet.proofs.Laws.Items.{times-behind, falls-to}
-use Rattle.lexer.proofs.Laws.Spaced.{number-inside}
-use Rattle.walk.proofs.Laws.Walking.{item-inside, no-number, one-step, no-times, Rounds, rounds-begin, round-reads, round-fits, rounds-end}
+use Rattle.sheet.proofs.Laws.Items.{falls-to}
+use Rattle.walk.proofs.Laws.Walking.{item-inside, station-stands, station-fits, one-step, Rounds, rounds-stand, rounds-place, times-inside, rounds-begin, round-reads, round-fits, rounds-end}
 use Rattle.walk.proofs.Laws.Idle.{later, round-on}
 use Rattle.walk.proofs.Laws.Passing.{Passed, passed-begin, passed-inside, item-reads, passed-fits, passed-behind, passed-more, passed-end}
 use borrow.Fn.Kinds.{In}
@@ -19,8 +18,7 @@ use Rattle.walk.proofs.run_items.Kinds as run-items-kinds
 use Rattle.walk.proofs.+run_item+run_items.Lts-run_items as run-items-lts
 use Rattle.stepping.proofs.running.taken.Reads as taken-reads
 use Rattle.stepping.proofs.sound_step.step_on.Reads as step-on-reads
-use Rattle.sheet.proofs.item.times.Reads as times-reads
-use Rattle.lexer.proofs.number.number.Reads as number-reads
+use Rattle.lexer.proofs.known.known_number.Reads as known-number-reads
 use Rattle.walk.proofs.round_after.Reads as round-after-reads
 use Rattle.walk.proofs.+run_item+run_items.{statement}
 use Rattle.walk.proofs.+run_item+run_items.Tie.{close}
@@ -51,35 +49,26 @@ run-items-claims t = (run-item-below t, run-item.Post)
 
 -- what the calls that `run_item` makes ask and give
 abbrev run-item-claims : ℕ → run-item-lts.Claims
-run-item-claims t = (number-reads.Asked, number-reads.Learnt, step-on-reads.Asked, step-on-reads.Learnt, taken-reads.Asked, taken-reads.Learnt, times-reads.Asked, times-reads.Learnt, run-items-below t, run-items.Post, round-after-reads.Asked, round-after-reads.Learnt)
+run-item-claims t = (known-number-reads.Asked, known-number-reads.Learnt, step-on-reads.Asked, step-on-reads.Learnt, taken-reads.Asked, taken-reads.Learnt, run-items-below t, run-items.Post, round-after-reads.Asked, round-after-reads.Learnt)
 
 abbrev run-item-Inv-loop : run-item-lts.InvT-loop
-run-item-Inv-loop board₀ line at value inner total₀ next₀ i₀ board total next i =
-    Rounds line board₀ value inner board total next i
+run-item-Inv-loop board₀ line at rounds inner total₀ next₀ i₀ board total next i =
+    Rounds line board₀ rounds inner board total next i
 
 abbrev run-item-μ-loop : run-item-lts.MeasureT-loop
-run-item-μ-loop board₀ line at value inner total₀ next₀ i₀ board total next i = value - i
+run-item-μ-loop board₀ line at rounds inner total₀ next₀ i₀ board total next i = rounds - i
 
 run-item-shared-slice-read-if1 : (t : ℕ) → run-item-lts.Need-shared-slice-read-if1 (run-item-claims t) (run-item-at t) run-item.Post run-item-Inv-loop run-item-μ-loop
 run-item-shared-slice-read-if1 t c = item-inside _ _ (c .before .before .before .pre .1 .1)
 
-run-item-number-requires : (t : ℕ) → run-item-lts.Need-number-requires (run-item-claims t) (run-item-at t) run-item.Post run-item-Inv-loop run-item-μ-loop
-run-item-number-requires t c κs = (omega arith, omega arith, omega arith)
-
-run-item-enum-known-value : (t : ℕ) → run-item-lts.Need-enum-known-value (run-item-claims t) (run-item-at t) run-item.Post run-item-Inv-loop run-item-μ-loop
-run-item-enum-known-value t c = search needs
-
-run-item-enum-told : (t : ℕ) → run-item-lts.Need-enum-told (run-item-claims t) (run-item-at t) run-item.Post run-item-Inv-loop run-item-μ-loop
-run-item-enum-told t c = search needs
-
-run-item-returns : (t : ℕ) → run-item-lts.Need-returns (run-item-claims t) (run-item-at t) run-item.Post run-item-Inv-loop run-item-μ-loop
-run-item-returns t c = no-number _ _ _ _ (c .before .before .before .if1 .taken) _ (c .before .before .number .ensures) _ (c .enum-told .given .1)
+run-item-known-number-requires : (t : ℕ) → run-item-lts.Need-known-number-requires (run-item-claims t) (run-item-at t) run-item.Post run-item-Inv-loop run-item-μ-loop
+run-item-known-number-requires t c κs = station-stands _ _ (c .if1 .taken) (c .before .before .before .before .pre .1 .1)
 
 run-item-cast-step-on : (t : ℕ) → run-item-lts.Need-cast-step-on (run-item-claims t) (run-item-at t) run-item.Post run-item-Inv-loop run-item-μ-loop
-run-item-cast-step-on t c = record { fits = omega (arith, number-inside _ _ _ _ _ (c .before .before .before .before .number .ensures .inside) _ _ (c .before .before .value .given .1) .3) }
+run-item-cast-step-on t c = record { fits = omega (arith, station-fits _ _ (c .before .before .before .if1 .taken) (c .before .before .before .before .before .before .before .pre .1 .1) _ (c .before .before .known-number .ensures)) }
 
 run-item-step-on-requires : (t : ℕ) → run-item-lts.Need-step-on-requires (run-item-claims t) (run-item-at t) run-item.Post run-item-Inv-loop run-item-μ-loop
-run-item-step-on-requires t c κs = c .before .before .before .before .before .before .before .before .before .pre .1 .0
+run-item-step-on-requires t c κs = c .before .before .before .before .before .before .before .pre .1 .0
 
 run-item-taken-requires : (t : ℕ) → run-item-lts.Need-taken-requires (run-item-claims t) (run-item-at t) run-item.Post run-item-Inv-loop run-item-μ-loop
 run-item-taken-requires t c κs = tt
@@ -87,26 +76,20 @@ run-item-taken-requires t c κs = tt
 run-item-same-length : (t : ℕ) → run-item-lts.Need-same-length (run-item-claims t) (run-item-at t) run-item.Post run-item-Inv-loop run-item-μ-loop
 run-item-same-length t c = search needs
 
-run-item-returns-2 : (t : ℕ) → run-item-lts.Need-returns-2 (run-item-claims t) (run-item-at t) run-item.Post run-item-Inv-loop run-item-μ-loop
-run-item-returns-2 t c = one-step _ _ _ _ (c .before .before .before .before .before .before .before .before .before .if1 .taken) _ (c .before .before .before .before .before .before .before .before .number .ensures) _ _ (c .before .before .before .before .before .before .value .given .1) _ (c .before .before .before .step-on .ensures) _ (c .taken .ensures)
+run-item-returns : (t : ℕ) → run-item-lts.Need-returns (run-item-claims t) (run-item-at t) run-item.Post run-item-Inv-loop run-item-μ-loop
+run-item-returns t c = one-step _ _ (c .before .before .before .before .before .before .before .if1 .taken) (c .before .before .before .before .before .before .before .before .before .before .before .pre .1 .1) _ (c .before .before .before .before .before .before .known-number .ensures) _ _ _ (c .before .before .before .step-on .ensures) _ (c .taken .ensures)
 
-run-item-times-requires : (t : ℕ) → run-item-lts.Need-times-requires (run-item-claims t) (run-item-at t) run-item.Post run-item-Inv-loop run-item-μ-loop
-run-item-times-requires t c κs = tt
+run-item-add-known-number : (t : ℕ) → run-item-lts.Need-add-known-number (run-item-claims t) (run-item-at t) run-item.Post run-item-Inv-loop run-item-μ-loop
+run-item-add-known-number t c = record { fits = omega (arith, rounds-place _ _ (c .if1 .left) (c .before .before .before .before .pre .1 .1)) }
 
-run-item-enum-known-value-2 : (t : ℕ) → run-item-lts.Need-enum-known-value-2 (run-item-claims t) (run-item-at t) run-item.Post run-item-Inv-loop run-item-μ-loop
-run-item-enum-known-value-2 t c = search needs
-
-run-item-enum-told-2 : (t : ℕ) → run-item-lts.Need-enum-told-2 (run-item-claims t) (run-item-at t) run-item.Post run-item-Inv-loop run-item-μ-loop
-run-item-enum-told-2 t c = search needs
-
-run-item-returns-3 : (t : ℕ) → run-item-lts.Need-returns-3 (run-item-claims t) (run-item-at t) run-item.Post run-item-Inv-loop run-item-μ-loop
-run-item-returns-3 t c = no-times _ _ _ (c .before .before .before .if1 .left) _ (c .before .before .times .ensures) _ _ (c .enum-told2 .given .1)
+run-item-known-number-requires-2 : (t : ℕ) → run-item-lts.Need-known-number-requires-2 (run-item-claims t) (run-item-at t) run-item.Post run-item-Inv-loop run-item-μ-loop
+run-item-known-number-requires-2 t c κs = rounds-stand _ _ (c .if1 .left) (c .before .before .before .before .pre .1 .1)
 
 run-item-loop-holds : (t : ℕ) → run-item-lts.Need-loop-holds (run-item-claims t) (run-item-at t) run-item.Post run-item-Inv-loop run-item-μ-loop
-run-item-loop-holds t c = rounds-begin _ _ _ (c .before .before .before .before .if1 .left) _ (c .before .before .before .times .ensures) _ _ (c .before .value2 .given .1) (c .before .before .before .before .before .before .before .before .pre .1 .1) (c .before .before .before .before .before .before .before .before .pre .1 .0)
+run-item-loop-holds t c = rounds-begin _ _ (c .before .if1 .left) (c .before .before .before .before .before .pre .1 .1) _ (c .known-number2 .ensures) _ (c .before .before .before .before .before .pre .1 .0)
 
 run-item-run-items-requires : (t : ℕ) → run-item-lts.Need-run-items-requires (run-item-claims t) (run-item-at t) run-item.Post run-item-Inv-loop run-item-μ-loop
-run-item-run-items-requires t c κs = (falls-to _ _ _ _ (c .before .before .before .before .before .before .before .before .before .before .before .pre .0) (times-behind _ _ _ _ _ (c .before .before .before .before .before .before .times .ensures) (c .before .before .before .before .value2 .given .1)) (item-inside _ _ (c .before .before .before .before .before .before .before .before .before .before .before .pre .1 .1)), (c .before .before .loop .inv .sound, round-reads _ _ _ _ _ _ _ _ (c .before .before .loop .inv) (omega arith)))
+run-item-run-items-requires t c κs = (falls-to _ _ _ _ (c .before .before .before .before .before .before .before .before .pre .0) (times-inside _ _ (c .before .before .before .before .if1 .left) (c .before .before .before .before .before .before .before .before .pre .1 .1) _ (c .before .before .before .known-number2 .ensures) .0) (item-inside _ _ (c .before .before .before .before .before .before .before .before .pre .1 .1)), (c .before .before .loop .inv .sound, round-reads _ _ _ _ _ _ _ _ (c .before .before .loop .inv) (omega arith)))
 
 run-item-add-total : (t : ℕ) → run-item-lts.Need-add-total (run-item-claims t) (run-item-at t) run-item.Post run-item-Inv-loop run-item-μ-loop
 run-item-add-total t c = record { fits = omega (arith, round-fits _ _ _ _ _ _ _ _ (c .before .before .before .before .before .before .loop .inv) (omega arith) _ _ (c .before .before .before .run-items .ensures)) }
@@ -123,8 +106,8 @@ run-item-loop-again t c = round-on _ _ _ _ _ _ _ _ (c .before .before .before .b
 run-item-same-length-2 : (t : ℕ) → run-item-lts.Need-same-length-2 (run-item-claims t) (run-item-at t) run-item.Post run-item-Inv-loop run-item-μ-loop
 run-item-same-length-2 t c = c .before .loop .inv .len
 
-run-item-returns-4 : (t : ℕ) → run-item-lts.Need-returns-4 (run-item-claims t) (run-item-at t) run-item.Post run-item-Inv-loop run-item-μ-loop
-run-item-returns-4 t c = rounds-end _ _ _ (c .before .before .before .before .before .before .if1 .left) _ (c .before .before .before .before .before .times .ensures) _ _ (c .before .before .before .value2 .given .1) _ _ _ _ (c .before .loop .inv) (omega arith)
+run-item-returns-2 : (t : ℕ) → run-item-lts.Need-returns-2 (run-item-claims t) (run-item-at t) run-item.Post run-item-Inv-loop run-item-μ-loop
+run-item-returns-2 t c = rounds-end _ _ (c .before .before .before .if1 .left) (c .before .before .before .before .before .before .before .pre .1 .1) _ (c .before .before .known-number2 .ensures) _ _ _ _ _ (c .before .loop .inv) (omega arith)
 
 abbrev run-items-Inv-loop : run-items-lts.InvT-loop
 run-items-Inv-loop board₀ line at total₀ place₀ board total place = Passed line at board₀ board total place
@@ -197,19 +180,14 @@ pub +run-item+run-items-spec : {M : Type 1} → statement M
     run-item-Inv-loop
     run-item-μ-loop
     (run-item-shared-slice-read-if1 t)
-    (run-item-number-requires t)
-    (run-item-enum-known-value t)
-    (run-item-enum-told t)
-    (run-item-returns t)
+    (run-item-known-number-requires t)
     (run-item-cast-step-on t)
     (run-item-step-on-requires t)
     (run-item-taken-requires t)
     (run-item-same-length t)
-    (run-item-returns-2 t)
-    (run-item-times-requires t)
-    (run-item-enum-known-value-2 t)
-    (run-item-enum-told-2 t)
-    (run-item-returns-3 t)
+    (run-item-returns t)
+    (run-item-add-known-number t)
+    (run-item-known-number-requires-2 t)
     (run-item-loop-holds t)
     (run-item-run-items-requires t)
     (run-item-add-total t)
@@ -217,7 +195,7 @@ pub +run-item+run-items-spec : {M : Type 1} → statement M
     (run-item-loop-less t)
     (run-item-loop-again t)
     (run-item-same-length-2 t)
-    (run-item-returns-4 t))
+    (run-item-returns-2 t))
     λ t. run-items-lts.spec
     (run-items-claims t)
     (run-items-at t)

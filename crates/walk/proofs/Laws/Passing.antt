@@ -11,6 +11,7 @@ use lib.ListN.{length, getD, drop, length-append}
 use borrow.Author.Tests.{ne-eqb}
 use Rattle.model.specs.Calls.{boardRefusal}
 use Rattle.model.specs.Forms.{Item, Items, done, next, expandItem, expand, found, andThen, spaced, itemIn, itemsIn}
+use Rattle.lexer.proofs.Laws.Given.{never, found-one, Through, through}
 use Rattle.lexer.proofs.Laws.Places.{first-byte, behind-first}
 use Rattle.stepping.specs.Stepped.{RunsOn}
 use Rattle.stepping.proofs.Laws.Running.{runs-below}
@@ -18,7 +19,7 @@ use Rattle.stepping.proofs.Laws.Joined.{runs-none, runs-then, runs-sound, runs-
 use Rattle.walk.specs.declared.Walked.{Walked}
 use Rattle.walk.specs.Walks.{Walk, Walks, ItemReads, ItemsRead, ItemWalks, ItemsWalk}
 use Rattle.walk.proofs.Laws.Fuel.{agree}
-use Rattle.walk.proofs.Laws.Walking.{never, found-one, Through, through, items-inside}
+use Rattle.walk.proofs.Laws.Walking.{items-inside}
 
 -- ---- what is read at a place, by its byte
 

@@ -1,25 +1,23 @@
 -- Items run as they stand in a line: what the walk over an item and over a list of items has done at each place.
 -- Relies on Fuel, the reader's laws and runs put together of runs; the proof of the two walks relies on it.
 use mathlib.Core.Path.{_≡_, refl, sym, ap, _∙_, subst, subst₂}
-use mathlib.Core.Bool.{Bool, true, false}
 use mathlib.Core.List.{List, [], _++_, append-assoc, append-nil}
-use mathlib.Core.Option.{Option, none, some}
+use mathlib.Core.Option.{none, some}
 use Prim.Native.Nat.{ℕ, zero, suc, _+_, _*_, _≤_, _<_}
-use native.Mathlib.Nat.{mul-le-mul-right}
+use native.Mathlib.Nat.{lt-of-not-le, mul-le-mul-right}
 use native.Mathlib.Numerals.{add-one}
 use native.Mathlib.Omega.{arith}
-use lib.Dec.{ltb}
 use lib.ListN.{length, getD, drop, drop-of-length-le}
-use borrow.Author.Tests.{ltb-true, ltb-false}
 use Rattle.model.specs.declared.StepAnswer.{StepAnswer}
 use Rattle.model.specs.Calls.{boardRefusal}
-use Rattle.model.specs.Forms.{Item, station, times, Items, next, repeated, expandItem, expand, Read, found, andThen, spaced, number, natural, itemIn, itemsIn}
+use Rattle.model.specs.Forms.{Item, station, times, Items, next, repeated, expandItem, expand, Read, found, andThen, spaced, number, natural, timesIn, itemIn, itemsIn}
 use Rattle.model.proofs.Sheet.Limits.{length-repeated}
-use Rattle.lexer.specs.declared.number.FoundNumber.{FoundNumber}
-use Rattle.lexer.specs.declared.number.FoundNumber.the-variants.{At, Missing}
-use Rattle.lexer.specs.Placed.{numberAt, NumberIs}
-use Rattle.sheet.specs.Counts.{TimesIs}
+use Rattle.lexer.specs.declared.known.KnownNumber.{KnownNumber}
+use Rattle.lexer.specs.Known.{NumberStands, KnownIs}
+use Rattle.lexer.proofs.Laws.Given.{never, found-one, Through, through}
+use Rattle.lexer.proofs.Laws.Known.{stands-there, known-found, known-range}
 use Rattle.sheet.proofs.Laws.Items.{as-number, as-times}
+use Rattle.sheet.proofs.Laws.Times.{times-number}
 use Rattle.stepping.specs.Stepped.{StepsOn, RunsOn, counts}
 use Rattle.stepping.proofs.Laws.Running.{runs-below}
 use Rattle.stepping.proofs.Laws.Joined.{runs-none, runs-one, runs-then, runs-sound, runs-length}
@@ -29,38 +27,10 @@ use Rattle.walk.proofs.Laws.Fuel.{agree}
 
 -- ---- what was read
 
-pub never : {A : Type 0} {B : Type 0} (a : A) → none ≡ some a → B
-never a e = absurd (let z : _≡_ {A = ℕ} 0 1 = cc in omega arith)
-
-pub found-one : {A : Type 0} (a b : A) (k l : List ℕ) → found a k ≡ found b l → (a ≡ b) × (k ≡ l)
-unfolding found
-found-one {A = A} a b k l e =
-    let d : _≡_ {A = Read A} (record { value = a; rest = k }) (record { value = b; rest = l }) = cc in
-    (ap (λ (r : Read A). r .value) d, ap (λ (r : Read A). r .rest) d)
-
--- what a reader gave that goes on with what another gave
-pub record Through {A B : Type 0} (o : Option (Read A)) (go : A → List ℕ → Option B) (b : B) : Type 0 where
-  pub value : A
-  pub rest : List ℕ
-  pub read : o ≡ found value rest
-  pub goes : go value rest ≡ some b
-
-pub through : {A B : Type 0} (o : Option (Read A)) (go : A → List ℕ → Option B) (b : B) → andThen o go ≡ some b → Through o go b
-unfolding andThen found
-through none go b e = never b e
-through (some r) go b e = record { value = r .value; rest = r .rest; read = refl; goes = e }
-
 module _ (line : List ℕ) (at : ℕ) where
-  inside-if : (length line ≤ at → ⊥) → at < length line
-  inside-if h = by (ltb at (length line)) refl
-    where
-      by : (t : Bool) → ltb at (length line) ≡ t → at < length line
-      by true e = ltb-true at (length line) e
-      by false e = absurd (h (ltb-false at (length line) e))
-
   pub item-inside : ItemReads line at → at < length line
   unfolding itemIn number natural andThen found
-  item-inside r = inside-if (λ l. nothing (r .fuel) (rw (drop-of-length-le line l) at (r .read)))
+  item-inside r = lt-of-not-le (λ (l : length line ≤ at). nothing (r .fuel) (rw (drop-of-length-le line l) at (r .read)))
     where
       nothing : (k : ℕ) → itemIn k [] ≡ found (r .value) (r .rest) → ⊥
       nothing zero e = never _ e
@@ -68,7 +38,7 @@ module _ (line : List ℕ) (at : ℕ) where
 
   pub items-inside : (k : ℕ) (r : Read Items) → itemsIn k (drop at line) ≡ some r → at < length line
   unfolding itemsIn spaced andThen found
-  items-inside k r e = inside-if (λ l. nothing k (rw (drop-of-length-le line l) at e))
+  items-inside k r e = lt-of-not-le (λ (l : length line ≤ at). nothing k (rw (drop-of-length-le line l) at e))
     where
       nothing : (k : ℕ) → itemsIn k [] ≡ some r → ⊥
       nothing zero e = never r e
@@ -86,24 +56,32 @@ module _ (line : List ℕ) (at : ℕ) (b d : List ℕ) where
       let same : (a ≡ c) × (rest ≡ l) = found-one a c rest l (sym (reads k) ∙ e) in
       subst₂ (λ (x : Item) (y : List ℕ). Walk line at (expandItem x) y b r d) (same .0) (same .1) walk
 
-  -- where none can be read, there is nothing to show
-  pub walks-none : (r : Walked) → ((k : ℕ) → itemIn (suc k) (drop at line) ≡ none) → ItemWalks line at b r d
-  unfolding Walks itemIn found
-  walks-none r reads zero c l e = never _ e
-  walks-none r reads (suc k) c l e = never _ (sym (reads k) ∙ e)
+module _ (line : List ℕ) (at : ℕ) (no-bracket : getD line at 0 ≡ 40 → ⊥) (reads : ItemReads line at) where
+  -- the number of a station, as it was read
+  station-read : (r : Read ℕ) × (number 0 99 (drop at line) ≡ some r)
+  unfolding itemIn found
+  station-read = by (reads .fuel) (reads .read)
+    where
+      by : (k : ℕ) → itemIn k (drop at line) ≡ found (reads .value) (reads .rest) → (r : Read ℕ) × (number 0 99 (drop at line) ≡ some r)
+      by zero e = never _ e
+      by (suc k) e =
+          let t = through (number 0 99 (drop at line)) _ _ (sym (as-number line at no-bracket k) ∙ e) in
+          (record { value = t .value; rest = t .rest }, t .read)
 
-  module _ (no-bracket : getD line at 0 ≡ 40 → ⊥) (r : FoundNumber) (is : NumberIs line at 0 99 r) where
-    pub no-number : (w : Walked) → r ≡ Missing → ItemWalks line at b w d
-    unfolding numberAt andThen
-    no-number w e = walks-none w (λ k. as-number line at no-bracket r is k ∙ rw e refl)
+  pub station-stands : NumberStands line at
+  station-stands = stands-there line at 0 99 (omega arith) (station-read .0) (station-read .1)
 
-    pub one-step : (v after : ℕ) → r ≡ At v after → (a : StepAnswer) → StepsOn v b a d → (m : ℕ) → m ≡ counts a
-        → ItemWalks line at b (record { taken = m; next = after }) d
-    unfolding numberAt andThen found expandItem
-    one-step v after e a steps m c =
-        let inside = rw e at (is .inside) in
-        walks-as _ (station v) (drop after line) (λ k. as-number line at no-bracket r is k ∙ rw e refl)
-        (record { ran = runs-one v b a d steps m c; follows = refl; behind = inside .0; inside = inside .1 })
+  module _ (n : KnownNumber) (is : KnownIs line at n) where
+    pub station-fits : n .value ≤ 99
+    station-fits = known-range line at 0 99 (omega arith) (station-read .0) (station-read .1) n is .1
+
+    pub one-step : (b d : List ℕ) (a : StepAnswer) → StepsOn (n .value) b a d → (m : ℕ) → m ≡ counts a
+        → ItemWalks line at b (record { taken = m; next = n .next }) d
+    unfolding andThen found expandItem
+    one-step b d a steps m c =
+        walks-as line at b d _ (station (n .value)) (drop (n .next) line)
+        (λ k. as-number line at no-bracket k ∙ rw (known-found line at 0 99 (omega arith) (station-read .0) (station-read .1) n is))
+        (record { ran = runs-one (n .value) b a d steps m c; follows = refl; behind = is .inside .0; inside = is .inside .1 })
 
 -- ---- an item that repeats
 
@@ -173,66 +151,90 @@ module _ (line b : List ℕ) (k inner : ℕ) (d : List ℕ) (total after i : ℕ
       len = runs-length (expand (rounds .items)) d e (w .taken) (rounds .sound) (walked .ran) ∙ rounds .len;
     }
 
-module _ (line : List ℕ) (at : ℕ) (b : List ℕ) (bracket : getD line at 0 ≡ 40) (r : FoundNumber) (is : TimesIs line at r) where
-  pub no-times : (w : Walked) (d : List ℕ) → r ≡ Missing → ItemWalks line at b w d
-  unfolding numberAt andThen
-  no-times w d e = walks-none line at b d w (λ k. as-times line at bracket r is k ∙ rw e refl)
+module _ (line : List ℕ) (at : ℕ) (bracket : getD line at 0 ≡ 40) (reads : ItemReads line at) where
+  -- the number of rounds, as it was read
+  times-read : (r : Read ℕ) × (timesIn (drop at line) ≡ some r)
+  unfolding itemIn found
+  times-read = by (reads .fuel) (reads .read)
+    where
+      by : (k : ℕ) → itemIn k (drop at line) ≡ found (reads .value) (reads .rest) → (r : Read ℕ) × (timesIn (drop at line) ≡ some r)
+      by zero e = never _ e
+      by (suc k) e =
+          let t = through (timesIn (drop at line)) _ _ (sym (as-times line at bracket k) ∙ e) in
+          (record { value = t .value; rest = t .rest }, t .read)
 
-  module _ (k inner : ℕ) (e : r ≡ At k inner) where
+  rounds-read : (number 1 99999 (drop (at + 7) line) ≡ some (times-read .0)) × (at + 7 ≤ length line)
+  rounds-read = times-number line at (times-read .0) (times-read .1)
+
+  pub rounds-stand : NumberStands line (at + 7)
+  rounds-stand = stands-there line (at + 7) 1 99999 (omega arith) (times-read .0) (rounds-read .0)
+
+  pub rounds-place : at + 7 ≤ length line
+  rounds-place = rounds-read .1
+
+  module _ (n : KnownNumber) (is : KnownIs line (at + 7) n) where
+    times-found : timesIn (drop at line) ≡ found (n .value) (drop (n .next) line)
+    times-found =
+        times-read .1 ∙ sym (rounds-read .0)
+        ∙ known-found line (at + 7) 1 99999 (omega arith) (times-read .0) (rounds-read .0) n is
+
     reads-inner : (fuel : ℕ)
-        → itemIn (suc fuel) (drop at line) ≡ andThen (itemsIn fuel (drop inner line)) λ items rest. found (times k items) rest
-    unfolding numberAt andThen found
-    reads-inner fuel = as-times line at bracket r is fuel ∙ rw e refl
+        → itemIn (suc fuel) (drop at line)
+        ≡ andThen (itemsIn fuel (drop (n .next) line)) λ items rest. found (times (n .value) items) rest
+    unfolding andThen found
+    reads-inner fuel = as-times line at bracket fuel ∙ rw times-found
 
     -- what the item is, by the items that it repeats
     inner-of : (fuel : ℕ) (a : Item) (rest : List ℕ) → itemIn (suc fuel) (drop at line) ≡ found a rest
-        → (items : Items) × (itemsIn fuel (drop inner line) ≡ found items rest) × (times k items ≡ a)
+        → (items : Items) × (itemsIn fuel (drop (n .next) line) ≡ found items rest) × (times (n .value) items ≡ a)
     unfolding found
     inner-of fuel a rest q =
-        let t : Through (itemsIn fuel (drop inner line)) (λ items rest. found (times k items) rest) (record { value = a; rest = rest }) =
+        let t : Through (itemsIn fuel (drop (n .next) line)) (λ items rest. found (times (n .value) items) rest) (record { value = a; rest = rest }) =
         through _ _ _ (sym (reads-inner fuel) ∙ q) in
-        let same : (times k (t .value) ≡ a) × (t .rest ≡ rest) = found-one (times k (t .value)) a (t .rest) rest (t .goes) in
+        let same : (times (n .value) (t .value) ≡ a) × (t .rest ≡ rest) = found-one (times (n .value) (t .value)) a (t .rest) rest (t .goes) in
         (t .value, t .read ∙ ap (found (t .value)) (same .1), same .0)
 
-    pub times-inside : (at < inner) × (1 ≤ k)
-    times-inside = let inside = rw e at (is .inside) in (inside .0, inside .2)
+    pub times-inside : (at < n .next) × (1 ≤ n .value)
+    times-inside =
+        (omega (arith, is .inside .0), known-range line (at + 7) 1 99999 (omega arith) (times-read .0) (rounds-read .0) n is .0)
 
-    pub rounds-begin : ItemReads line at → boardRefusal b none ≡ none → Rounds line b k inner b 0 inner 0
-    unfolding itemIn found repeated expandItem
-    rounds-begin reads sound = by (reads .fuel) (reads .read)
-      where
-        by : (fuel : ℕ) → itemIn fuel (drop at line) ≡ found (reads .value) (reads .rest) → Rounds line b k inner b 0 inner 0
-        by zero q = never _ q
-        by (suc fuel) q =
-            let t = inner-of fuel (reads .value) (reads .rest) q in
-            record {
-              fuel = fuel;
-              items = t .0;
-              rest = reads .rest;
-              read = t .1;
-              few = subst (λ (x : Item). length (expandItem x) ≤ 65536) (sym (t .2)) (reads .few);
-              ran = runs-none b;
-              most = omega arith;
-              ended = λ l. absurd (omega arith);
-              sound = sound;
-              len = refl;
-            }
+    module _ (b : List ℕ) where
+      pub rounds-begin : boardRefusal b none ≡ none → Rounds line b (n .value) (n .next) b 0 (n .next) 0
+      unfolding itemIn found repeated expandItem
+      rounds-begin sound = by (reads .fuel) (reads .read)
+        where
+          by : (fuel : ℕ) → itemIn fuel (drop at line) ≡ found (reads .value) (reads .rest) → Rounds line b (n .value) (n .next) b 0 (n .next) 0
+          by zero q = never _ q
+          by (suc fuel) q =
+              let t = inner-of fuel (reads .value) (reads .rest) q in
+              record {
+                fuel = fuel;
+                items = t .0;
+                rest = reads .rest;
+                read = t .1;
+                few = subst (λ (x : Item). length (expandItem x) ≤ 65536) (sym (t .2)) (reads .few);
+                ran = runs-none b;
+                most = omega arith;
+                ended = λ l. absurd (omega arith);
+                sound = sound;
+                len = refl;
+              }
 
-    pub rounds-end : (d : List ℕ) (total after i : ℕ) → Rounds line b k inner d total after i → k ≤ i
-        → ItemWalks line at b (record { taken = total; next = after }) d
-    unfolding Walks itemIn found expandItem
-    rounds-end d total after i rounds l zero a rest q = never _ q
-    rounds-end d total after i rounds l (suc fuel) a rest q =
-        let t = inner-of fuel a rest q in
-        let same : (rounds .items ≡ t .0) × (rounds .rest ≡ rest) =
-        found-one _ _ _ _ (ap some (agree (rounds .fuel) fuel (drop inner line) _ _ (rounds .read) (t .1))) in
-        let all : i ≡ k = omega (arith, rounds .most) in
-        let last = rounds .ended (omega (arith, times-inside .1)) in
-        record {
-          ran =
-              subst (λ (x : Item). RunsOn (expandItem x) b total d) (t .2)
-              (subst₂ (λ (n : ℕ) (x : Items). RunsOn (repeated n (expand x)) b total d) all (same .0) (rounds .ran));
-          follows = last .0 ∙ same .1;
-          behind = omega (arith, times-inside .0, last .1);
-          inside = last .2;
-        }
+      pub rounds-end : (d : List ℕ) (total after i : ℕ) → Rounds line b (n .value) (n .next) d total after i → n .value ≤ i
+          → ItemWalks line at b (record { taken = total; next = after }) d
+      unfolding Walks itemIn found expandItem
+      rounds-end d total after i rounds l zero a rest q = never _ q
+      rounds-end d total after i rounds l (suc fuel) a rest q =
+          let t = inner-of fuel a rest q in
+          let same : (rounds .items ≡ t .0) × (rounds .rest ≡ rest) =
+          found-one _ _ _ _ (ap some (agree (rounds .fuel) fuel (drop (n .next) line) _ _ (rounds .read) (t .1))) in
+          let all : i ≡ n .value = omega (arith, rounds .most) in
+          let last = rounds .ended (omega (arith, times-inside .1)) in
+          record {
+            ran =
+                subst (λ (x : Item). RunsOn (expandItem x) b total d) (t .2)
+                (subst₂ (λ (j : ℕ) (x : Items). RunsOn (repeated j (expand x)) b total d) all (same .0) (rounds .ran));
+            follows = last .0 ∙ same .1;
+            behind = omega (arith, times-inside .0, last .1);
+            inside = last .2;
+          }

@@ -39,7 +39,7 @@ enum-told : tie.Need-enum-told
 enum-told c = search needs
 
 returns-4 : tie.Need-returns-4
-returns-4 c = minus-missed _ _ (c .before .before .before .before .before .before .if2 .left) (c .before .before .before .if4 .taken) _ (c .before .before .number .ensures) (c .enum-told .given .1)
+returns-4 c = minus-missed _ _ (c .before .before .before .before .before .before .if2 .left) (c .before .before .before .if4 .taken) _ (c .before .before .number .ensures) _ (c .enum-told .given .1)
 
 sub-t15 : tie.Need-sub-t15
 sub-t15 c = omega (arith, number-inside _ _ _ _ _ (c .before .before .before .number .ensures .inside) _ _ (c .before .value .given .1) .2)
@@ -63,7 +63,7 @@ enum-told-2 : tie.Need-enum-told-2
 enum-told-2 c = search needs
 
 returns-6 : tie.Need-returns-6
-returns-6 c = plain-missed _ _ (c .before .before .before .before .before .before .if2 .left) (c .before .before .before .if4 .left) _ (c .before .before .number2 .ensures) (c .enum-told2 .given .1)
+returns-6 c = plain-missed _ _ (c .before .before .before .before .before .before .if2 .left) (c .before .before .before .if4 .left) _ (c .before .before .number2 .ensures) _ (c .enum-told2 .given .1)
 
 cast-t19 : tie.Need-cast-t19
 cast-t19 c = positive-fits _ (number-inside _ _ _ _ _ (c .before .before .before .number2 .ensures .inside) _ _ (c .before .value2 .given .1) .3)

@@ -15,7 +15,7 @@ enum-told : tie.Need-enum-told
 enum-told c = search needs
 
 returns : tie.Need-returns
-returns c = board-no-first _ _ _ (c .before .before .spaced-number .ensures) (c .enum-told .given .1)
+returns c = board-no-first _ _ _ (c .before .before .spaced-number .ensures) _ (c .enum-told .given .1)
 
 spaced-number-requires-2 : tie.Need-spaced-number-requires-2
 spaced-number-requires-2 c κs = search needs
@@ -27,7 +27,7 @@ enum-told-2 : tie.Need-enum-told-2
 enum-told-2 c = search needs
 
 returns-2 : tie.Need-returns-2
-returns-2 c = board-no-second _ _ _ (c .before .before .before .before .before .before .spaced-number .ensures) _ _ (c .before .before .before .before .n .given .1) _ (c .before .before .spaced-number2 .ensures) (c .enum-told2 .given .1)
+returns-2 c = board-no-second _ _ _ (c .before .before .before .before .before .before .spaced-number .ensures) _ _ (c .before .before .before .before .n .given .1) _ (c .before .before .spaced-number2 .ensures) _ (c .enum-told2 .given .1)
 
 closes-requires : tie.Need-closes-requires
 closes-requires c κs = number-inside _ _ _ _ _ (c .before .before .before .spaced-number2 .ensures .inside) _ _ (c .before .k .given .1) .1

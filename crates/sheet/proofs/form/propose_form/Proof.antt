@@ -15,7 +15,7 @@ enum-told : tie.Need-enum-told
 enum-told c = search needs
 
 returns : tie.Need-returns
-returns c = propose-no-first _ _ _ (c .before .before .spaced-number .ensures) (c .enum-told .given .1)
+returns c = propose-no-first _ _ _ (c .before .before .spaced-number .ensures) _ (c .enum-told .given .1)
 
 spaced-figure-requires : tie.Need-spaced-figure-requires
 spaced-figure-requires c κs = search needs
@@ -27,7 +27,7 @@ enum-told-2 : tie.Need-enum-told-2
 enum-told-2 c = search needs
 
 returns-2 : tie.Need-returns-2
-returns-2 c = propose-no-second _ _ _ (c .before .before .before .before .before .before .spaced-number .ensures) _ _ (c .before .before .before .before .station .given .1) _ (c .before .before .spaced-figure .ensures) (c .enum-told2 .given .1)
+returns-2 c = propose-no-second _ _ _ (c .before .before .before .before .before .before .spaced-number .ensures) _ _ (c .before .before .before .before .station .given .1) _ (c .before .before .spaced-figure .ensures) _ (c .enum-told2 .given .1)
 
 closes-requires : tie.Need-closes-requires
 closes-requires c κs = figure-inside _ _ _ (c .before .before .before .spaced-figure .ensures .inside) _ _ (c .before .figure .given .1) .1

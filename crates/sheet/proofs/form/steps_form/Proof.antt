@@ -15,7 +15,7 @@ enum-told : tie.Need-enum-told
 enum-told c = search needs
 
 returns : tie.Need-returns
-returns c = steps-missing _ _ _ (c .before .before .items .ensures) (c .enum-told .given .1)
+returns c = steps-missing _ _ _ (c .before .before .items .ensures) _ (c .enum-told .given .1)
 
 returns-2 : tie.Need-returns-2
 returns-2 c = steps-behind _ _ _ (c .before .before .before .before .items .ensures) _ _ (c .before .before .count .given .1) (omega arith)

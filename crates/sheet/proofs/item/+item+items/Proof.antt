@@ -62,7 +62,7 @@ item-enum-told : (t : ℕ) → item-lts.Need-enum-told (item-claims t) (item-at 
 item-enum-told t c = search needs
 
 item-returns-2 : (t : ℕ) → item-lts.Need-returns-2 (item-claims t) (item-at t) item.Post
-item-returns-2 t c = no-number _ _ (c .before .before .before .if2 .taken) _ (c .before .before .number .ensures) (c .enum-told .given .1)
+item-returns-2 t c = no-number _ _ (c .before .before .before .if2 .taken) _ (c .before .before .number .ensures) _ (c .enum-told .given .1)
 
 item-returns-3 : (t : ℕ) → item-lts.Need-returns-3 (item-claims t) (item-at t) item.Post
 item-returns-3 t c = one-step _ _ (c .before .before .before .before .if2 .taken) _ (c .before .before .before .number .ensures) _ _ (c .before .next .given .1)
@@ -77,7 +77,7 @@ item-enum-told-2 : (t : ℕ) → item-lts.Need-enum-told-2 (item-claims t) (item
 item-enum-told-2 t c = search needs
 
 item-returns-4 : (t : ℕ) → item-lts.Need-returns-4 (item-claims t) (item-at t) item.Post
-item-returns-4 t c = no-times _ _ (c .before .before .before .if2 .left) _ (c .before .before .times .ensures) (c .enum-told2 .given .1)
+item-returns-4 t c = no-times _ _ (c .before .before .before .if2 .left) _ (c .before .before .times .ensures) _ (c .enum-told2 .given .1)
 
 item-items-requires : (t : ℕ) → item-lts.Need-items-requires (item-claims t) (item-at t) item.Post
 item-items-requires t c κs = (falls-to _ _ _ _ (c .before .before .before .before .before .before .before .before .pre .0) (times-behind _ _ _ _ _ (c .before .before .before .times .ensures) (c .before .value .given .1)) (c .before .before .before .before .before .before .if1 .left), tt)
@@ -89,7 +89,7 @@ item-enum-told-3 : (t : ℕ) → item-lts.Need-enum-told-3 (item-claims t) (item
 item-enum-told-3 t c = search needs
 
 item-returns-5 : (t : ℕ) → item-lts.Need-returns-5 (item-claims t) (item-at t) item.Post
-item-returns-5 t c = no-inner _ _ (c .before .before .before .before .before .before .before .if2 .left) _ (c .before .before .before .before .before .before .times .ensures) _ _ (c .before .before .before .before .value .given .1) _ (c .before .before .items .ensures) (c .enum-told3 .given .1)
+item-returns-5 t c = no-inner _ _ (c .before .before .before .before .before .before .before .if2 .left) _ (c .before .before .before .before .before .before .times .ensures) _ _ (c .before .before .before .before .value .given .1) _ (c .before .before .items .ensures) _ (c .enum-told3 .given .1)
 
 item-cast-cap : (t : ℕ) → item-lts.Need-cast-cap (item-claims t) (item-at t) item.Post
 item-cast-cap t c = search needs
@@ -143,7 +143,7 @@ items-enum-told : (t : ℕ) → items-lts.Need-enum-told (items-claims t) (items
 items-enum-told t c = search needs
 
 items-returns-3 : (t : ℕ) → items-lts.Need-returns-3 (items-claims t) (items-at t) items.Post items-Inv-loop items-μ-loop
-items-returns-3 t c = item-missing _ _ _ _ (c .before .before .before .before .before .before .before .before .loop .inv) (omega arith) (c .before .before .before .before .before .if1 .left) (c .before .before .before .if2 .left) _ (c .before .before .item .ensures) (c .enum-told .given .1)
+items-returns-3 t c = item-missing _ _ _ _ (c .before .before .before .before .before .before .before .before .loop .inv) (omega arith) (c .before .before .before .before .before .if1 .left) (c .before .before .before .if2 .left) _ (c .before .before .item .ensures) _ (c .enum-told .given .1)
 
 items-cast-cap : (t : ℕ) → items-lts.Need-cast-cap (items-claims t) (items-at t) items.Post items-Inv-loop items-μ-loop
 items-cast-cap t c = search needs

@@ -1,0 +1,37 @@
+// A number that is known to stand at a place of a line: it was read there before, so that no range is left to test.
+// Relies on nothing; the walk over items relies on it.
+ghost use Rattle.lexer.specs.Known.{NumberStands, KnownIs};
+
+// The number and the place after it.
+pub struct KnownNumber {
+    pub value: u32,
+    pub next: usize,
+}
+
+// The number at `at`: a first 0 is all of it, and else its digits go on to the first byte that is none.
+pub fn known_number(line: &[u8], at: usize) -> KnownNumber
+    requires { ⌜ NumberStands (now line) at ⌝ }
+    ensures { λ r. ⌜ KnownIs (now (line .entry)) at r ⌝ }
+{
+    let first = line[at];
+    if first == b'0' {
+        return KnownNumber {
+            value: 0,
+            next: at + 1,
+        };
+    }
+    let mut value = (first - b'0') as u32;
+    let mut next = at + 1;
+    while next < line.len() {
+        let byte = line[next];
+        if byte < b'0' {
+            return KnownNumber { value, next };
+        }
+        if b'9' < byte {
+            return KnownNumber { value, next };
+        }
+        value = 10 * value + (byte - b'0') as u32;
+        next += 1;
+    }
+    KnownNumber { value, next }
+}
