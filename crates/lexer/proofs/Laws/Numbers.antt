@@ -1,5 +1,5 @@
 -- Digits one by one: what the loop over them keeps, and what it may answer at each place where it stops.
--- Relies on Places and the model's `digitsFrom` and `number`; the proofs of src/number.rt rely on it.
+-- Relies on Places and the model's `digitsFrom` and `number`; the proofs of src/number.rt and src/known.rt rely on it.
 use mathlib.Core.Path.{_≡_, refl, sym, ap, _∙_}
 use mathlib.Core.Bool.{Bool, true, false, cond, _&&_}
 use mathlib.Core.List.{List, [], _∷_}

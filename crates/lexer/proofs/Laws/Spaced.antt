@@ -1,5 +1,6 @@
 -- A number and a figure behind a single space, and what a reading that was taken apart says of the bytes.
--- Relies on Places and the model's `spaced` and `figureIn`; the proofs of src/number.rt, and of items and forms above, rely on it.
+-- Relies on Places, Answers and the model's `spaced` and `figureIn`; the proofs of src/number.rt, and of items and forms above, rely
+-- on it.
 use mathlib.Core.Path.{_≡_, sym, ap, _∙_, subst}
 use mathlib.Core.List.{List}
 use mathlib.Core.Option.{Option, none}

@@ -1,8 +1,8 @@
 -- Items run as they stand in a line: what the walk over an item and over a list of items has done at each place.
--- Relies on Fuel, the reader's laws and runs put together of runs; the proof of the two walks relies on it.
+-- Relies on Fuel, the laws of items and of a known number, and runs put together of runs; the proof of the two walks relies on it.
 use mathlib.Core.Path.{_≡_, refl, sym, ap, _∙_, subst, subst₂}
 use mathlib.Core.List.{List, [], _++_, append-assoc, append-nil}
-use mathlib.Core.Option.{none, some}
+use mathlib.Core.Option.{Option, none, some}
 use Prim.Native.Nat.{ℕ, zero, suc, _+_, _*_, _≤_, _<_}
 use native.Mathlib.Nat.{lt-of-not-le, mul-le-mul-right}
 use native.Mathlib.Numerals.{add-one}
@@ -56,17 +56,19 @@ module _ (line : List ℕ) (at : ℕ) (b d : List ℕ) where
       let same : (a ≡ c) × (rest ≡ l) = found-one a c rest l (sym (reads k) ∙ e) in
       subst₂ (λ (x : Item) (y : List ℕ). Walk line at (expandItem x) y b r d) (same .0) (same .1) walk
 
+-- what an item that was read begins with was read too
+begins : (line : List ℕ) (at : ℕ) → ItemReads line at → {A : Type 0} (o : Option (Read A)) (go : ℕ → A → List ℕ → Option (Read Item))
+    → ((k : ℕ) → itemIn (suc k) (drop at line) ≡ andThen o (go k)) → (r : Read A) × (o ≡ some r)
+unfolding itemIn found
+begins line at reads {A = A} o go starts = by (reads .fuel) (reads .read)
+  where
+    by : (k : ℕ) → itemIn k (drop at line) ≡ found (reads .value) (reads .rest) → (r : Read A) × (o ≡ some r)
+    by zero e = never _ e
+    by (suc k) e = let t = through o (go k) _ (sym (starts k) ∙ e) in (record { value = t .value; rest = t .rest }, t .read)
+
 module _ (line : List ℕ) (at : ℕ) (no-bracket : getD line at 0 ≡ 40 → ⊥) (reads : ItemReads line at) where
-  -- the number of a station, as it was read
   station-read : (r : Read ℕ) × (number 0 99 (drop at line) ≡ some r)
-  unfolding itemIn found
-  station-read = by (reads .fuel) (reads .read)
-    where
-      by : (k : ℕ) → itemIn k (drop at line) ≡ found (reads .value) (reads .rest) → (r : Read ℕ) × (number 0 99 (drop at line) ≡ some r)
-      by zero e = never _ e
-      by (suc k) e =
-          let t = through (number 0 99 (drop at line)) _ _ (sym (as-number line at no-bracket k) ∙ e) in
-          (record { value = t .value; rest = t .rest }, t .read)
+  station-read = begins line at reads (number 0 99 (drop at line)) _ (as-number line at no-bracket)
 
   pub station-stands : NumberStands line at
   station-stands = stands-there line at 0 99 (omega arith) (station-read .0) (station-read .1)
@@ -152,16 +154,8 @@ module _ (line b : List ℕ) (k inner : ℕ) (d : List ℕ) (total after i : ℕ
     }
 
 module _ (line : List ℕ) (at : ℕ) (bracket : getD line at 0 ≡ 40) (reads : ItemReads line at) where
-  -- the number of rounds, as it was read
   times-read : (r : Read ℕ) × (timesIn (drop at line) ≡ some r)
-  unfolding itemIn found
-  times-read = by (reads .fuel) (reads .read)
-    where
-      by : (k : ℕ) → itemIn k (drop at line) ≡ found (reads .value) (reads .rest) → (r : Read ℕ) × (timesIn (drop at line) ≡ some r)
-      by zero e = never _ e
-      by (suc k) e =
-          let t = through (timesIn (drop at line)) _ _ (sym (as-times line at bracket k) ∙ e) in
-          (record { value = t .value; rest = t .rest }, t .read)
+  times-read = begins line at reads (timesIn (drop at line)) _ (as-times line at bracket)
 
   rounds-read : (number 1 99999 (drop (at + 7) line) ≡ some (times-read .0)) × (at + 7 ≤ length line)
   rounds-read = times-number line at (times-read .0) (times-read .1)
