@@ -13,12 +13,13 @@ use borrow.Author.Tests.{ne-eqb}
 use Rattle.model.specs.Forms.{Read, found, andThen, digit, digitsFrom, natural, number}
 use Rattle.model.proofs.Basics.Tests.{true-T, T-true}
 use Rattle.model.proofs.Calls.Refusals.{within, within-T}
+use Rattle.model.proofs.Sheet.NumbersBack.{grows}
 use Rattle.lexer.specs.declared.number.FoundNumber.the-variants.{At}
 use Rattle.lexer.specs.declared.known.KnownNumber.{KnownNumber}
 use Rattle.lexer.specs.Known.{NumberStands, KnownIs}
 use Rattle.lexer.proofs.Laws.Places.{here}
 use Rattle.lexer.proofs.Laws.Given.{never, passed}
-use Rattle.lexer.proofs.Laws.Numbers.{Along, grows, is-digit}
+use Rattle.lexer.proofs.Laws.Numbers.{Along, is-digit}
 use Rattle.lexer.proofs.Laws.Spaced.{number-found}
 
 -- ---- a number that is found is in its range, and is found in every wider one
@@ -96,4 +97,4 @@ module _ (line : List ℕ) (at : ℕ) (stands : NumberStands line at) where
         let more : ℕ = 10 * value + (getD line next 0 - 48) in
         let all : digitsFrom (getD line at 0 - 48) (drop (at + 1) line) ≡ digitsFrom more (drop (next + 1) line) =
         along .same ∙ rw (here line next h, is-digit (getD line next 0) low up) in
-        omega (arith, known-digits .1, grows more (drop (next + 1) line), ap (λ (s : Read ℕ). s .value) all)
+        omega (arith, known-digits .1, grows (drop (next + 1) line) more, ap (λ (s : Read ℕ). s .value) all)

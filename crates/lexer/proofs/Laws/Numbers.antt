@@ -1,7 +1,7 @@
 -- Digits one by one: what the loop over them keeps, and what it may answer at each place where it stops.
 -- Relies on Places and the model's `digitsFrom` and `number`; the proofs of src/number.rt and src/known.rt rely on it.
 use mathlib.Core.Path.{_≡_, refl, sym, ap, _∙_}
-use mathlib.Core.Bool.{Bool, true, false, cond, _&&_}
+use mathlib.Core.Bool.{true, false, cond, _&&_}
 use mathlib.Core.List.{List, [], _∷_}
 use mathlib.Core.Option.{none}
 use Prim.Native.Nat.{ℕ, _+_, _*_, _-_, _≤_, _<_}
@@ -9,6 +9,7 @@ use native.Mathlib.Omega.{arith}
 use lib.Dec.{eqb, leb}
 use lib.ListN.{length, getD, drop, drop-of-length-le}
 use borrow.Author.Tests.{le-leb, lt-leb, eq-eqb, ne-eqb}
+use Rattle.model.proofs.Sheet.NumbersBack.{grows}
 use Rattle.model.specs.Forms.{Read, found, andThen, digit, digitsFrom, natural, number}
 use Rattle.lexer.specs.declared.number.FoundNumber.{FoundNumber}
 use Rattle.lexer.specs.declared.number.FoundNumber.the-variants.{At, Refused}
@@ -27,17 +28,6 @@ below-digits b h = rw (lt-leb 48 b h)
 above-digits : (b : ℕ) → 57 < b → digit b ≡ false
 unfolding digit
 above-digits b h = rw (le-leb 48 b (omega arith), lt-leb b 57 h)
-
--- more digits make no smaller number
-pub grows : (v : ℕ) (l : List ℕ) → v ≤ digitsFrom v l .value
-unfolding digitsFrom
-grows v [] = omega arith
-grows v (b ∷ l) = by (digit b) (grows (10 * v + (b - 48)) l)
-  where
-    by : (t : Bool) → 10 * v + (b - 48) ≤ digitsFrom (10 * v + (b - 48)) l .value
-        → v ≤ cond t (digitsFrom (10 * v + (b - 48)) l) (record { value = v; rest = b ∷ l }) .value
-    by true h = omega arith
-    by false h = omega arith
 
 -- what the digits from `at` on are, once those before `next` have made `value`
 pub record Along (line : List ℕ) (at v high next value : ℕ) : Type 0 where
@@ -70,7 +60,7 @@ module _ (line : List ℕ) (at v high : ℕ) where
     unfolding digitsFrom upTo
     too-large h low up l =
         let more : ℕ = 10 * value + (getD line next 0 - 48) in
-        let large : high < digitsFrom more (drop (next + 1) line) .value = omega (arith, grows more (drop (next + 1) line)) in
+        let large : high < digitsFrom more (drop (next + 1) line) .value = omega (arith, grows (drop (next + 1) line) more) in
         rw (along .same, here line next h, is-digit (getD line next 0) low up, lt-leb (digitsFrom more (drop (next + 1) line) .value) high large)
 
     pub beyond : next < length line → 48 ≤ getD line next 0 → getD line next 0 ≤ 57
@@ -141,7 +131,7 @@ module _ (line : List ℕ) (at low high : ℕ) where
           reads =
               is .reads
               ∙ ap orRefused
-              (in-range low high (digitsFrom v (drop (at + 1) line)) (omega (arith, grows v (drop (at + 1) line)))
+              (in-range low high (digitsFrom v (drop (at + 1) line)) (omega (arith, grows (drop (at + 1) line) v))
               ∙ sym (rw (here line at inside, e, is-digit (getD line at 0) (omega arith) high-end)));
           inside = weaken line at low v high r (omega arith) (is .inside at (omega arith));
         }

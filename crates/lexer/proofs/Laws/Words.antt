@@ -174,15 +174,19 @@ module _ (w : List ℕ) where
 
 -- ---- the word that names the line's form
 
+-- the model's word of each of the code's
+abbrev pub modelWord : FormWord → Word
+modelWord Board = boardWord
+modelWord Propose = proposeWord
+modelWord Steps = stepsWord
+modelWord Show = showWord
+
 -- the name read back: no two words have the same
-word-back : Named → Option Word
-word-back (Form Board) = some boardWord
-word-back (Form Propose) = some proposeWord
-word-back (Form Steps) = some stepsWord
-word-back (Form Show) = some showWord
+unfoldable pub word-back : Named → Option Word
+word-back (Form w) = some (modelWord w)
 word-back Nothing = none
 
-back : (o : Option Word) → word-back (namedAs o) ≡ o
+pub back : (o : Option Word) → word-back (namedAs o) ≡ o
 unfolding word-back namedAs
 back none = refl
 back (some boardWord) = refl

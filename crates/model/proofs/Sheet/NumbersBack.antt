@@ -56,7 +56,8 @@ longer v b l h e f =
     joined : (x y c d : ℕ) → x ≡ y → c ≡ d → decimal x ++ (c ∷ l) ≡ decimal y ++ (d ∷ l)
     joined x y c d p q = λ j. decimal (p j) ++ (q j ∷ l)
 
-grows : (l : List ℕ) (v : ℕ) → v ≤ digitsFrom v l .value
+-- more digits make no smaller number
+pub grows : (l : List ℕ) (v : ℕ) → v ≤ digitsFrom v l .value
 unfolding digitsFrom
 grows [] v = le-refl v
 grows (b ∷ l) v =

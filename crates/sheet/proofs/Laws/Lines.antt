@@ -3,7 +3,7 @@
 use mathlib.Core.Path.{_≡_, refl, sym, ap, _∙_}
 use mathlib.Core.Bool.{Bool, true, false, cond, _||_}
 use mathlib.Core.List.{List, [], _∷_}
-use mathlib.Core.Option.{Option, none, some}
+use mathlib.Core.Option.{none, some}
 use Prim.Native.Nat.{ℕ, suc, _+_, _≤_, _<_}
 use native.Mathlib.Omega.{arith}
 use lib.Dec.{eqb}
@@ -11,51 +11,31 @@ use lib.ListN.{length, drop}
 use borrow.Author.Tests.{le-leb, lt-leb}
 use Rattle.model.specs.Show.{text, textFrom}
 use Rattle.model.specs.Calls.{unless}
-use Rattle.model.specs.Forms.{Word, boardWord, proposeWord, stepsWord, showWord, wordOf, same, upToStop, firstWord, formAfter, formIn, tooDeep, orFour, readLine}
+use Rattle.model.specs.Forms.{wordOf, same, upToStop, firstWord, formAfter, formIn, tooDeep, orFour, readLine}
 use Rattle.lexer.specs.declared.word.FormWord.{FormWord}
-use Rattle.lexer.specs.declared.word.FormWord.the-variants as words
 use Rattle.lexer.specs.declared.word.Named.{Named}
 use Rattle.lexer.specs.declared.word.Named.the-variants.{Form, Nothing}
 use Rattle.sheet.specs.declared.form.LineForm.{LineForm}
 use Rattle.sheet.specs.declared.form.LineForm.the-variants.{Refused}
-use Rattle.lexer.specs.Words.{named, namedAs}
+use Rattle.lexer.specs.Words.{named}
+use Rattle.lexer.proofs.Laws.Words.{modelWord, word-back, back}
 use Rattle.sheet.specs.Lines.{lineForm}
 
 -- ---- a word by its name
 
--- the model's word of each of the code's
-abbrev pub modelWord : FormWord → Word
-modelWord words.Board = boardWord
-modelWord words.Propose = proposeWord
-modelWord words.Steps = stepsWord
-modelWord words.Show = showWord
-
--- the word that a name stands for
-backName : Named → Option Word
-backName Nothing = none
-backName (Form w) = some (modelWord w)
-
-back : (o : Option Word) → backName (namedAs o) ≡ o
-unfolding namedAs backName
-back none = refl
-back (some boardWord) = refl
-back (some proposeWord) = refl
-back (some stepsWord) = refl
-back (some showWord) = refl
-
 module _ (l : List ℕ) (part : List ℕ) (is : part ≡ firstWord l) (r : Named) (name : r ≡ named part) where
-  word-of : backName r ≡ wordOf (firstWord l)
+  word-of : word-back r ≡ wordOf (firstWord l)
   unfolding named
-  word-of = ap backName name ∙ back (wordOf part) ∙ ap wordOf is
+  word-of = ap word-back name ∙ back (wordOf part) ∙ ap wordOf is
 
   pub no-form : r ≡ Nothing → Refused 4 ≡ lineForm (orFour (formIn l))
-  unfolding formIn orFour lineForm backName
-  no-form e = let none-there : wordOf (firstWord l) ≡ none = sym word-of ∙ ap backName e in rw (none-there, formIn)
+  unfolding formIn orFour lineForm word-back
+  no-form e = let none-there : wordOf (firstWord l) ≡ none = sym word-of ∙ ap word-back e in rw (none-there, formIn)
 
   module _ (v w : FormWord) (e : r ≡ Form v) (q : v ≡ w) where
     the-word : wordOf (firstWord l) ≡ some (modelWord w)
-    unfolding backName
-    the-word = sym word-of ∙ ap backName (e ∙ ap Form q)
+    unfolding word-back
+    the-word = sym word-of ∙ ap word-back (e ∙ ap Form q)
 
     pub form-read : (x : LineForm) → x ≡ lineForm (orFour (formAfter (modelWord w) (drop (length part + 1) l))) → x ≡ lineForm (orFour (formIn l))
     unfolding formIn
