@@ -14,7 +14,7 @@ use Rattle.model.specs.Bytes.{byte, part, splice, digits}
 use Rattle.model.specs.Figure.{Figure, figureBytes}
 use Rattle.model.specs.Listing.{Seen}
 use Rattle.model.specs.Layout.{asRecord, fields, layRecord}
-use Rattle.model.proofs.Basics.Splices.{length-part, length-splice}
+use Rattle.model.proofs.Basics.Splices.{length-part, length-splice, splice-set}
 use Rattle.codec.specs.Over.{phaseOver, collectedOver, startedOver}
 
 -- a splice inside what was put in before
@@ -49,8 +49,7 @@ module _ (at i : ℕ) (x w b : List ℕ) (inner : i + length x ≤ length w) (ou
 
 -- a store after others
 next : (i a : ℕ) (b d : List ℕ) → i < length b → b ≡ d → set b i a ≡ splice i (a ∷ []) d
-unfolding splice
-next i a b d h e = sets-eq (a ∷ []) b i (omega arith) ∙ ap (splice i (a ∷ [])) e
+next i a b d h e = splice-set i a b h ∙ ap (splice i (a ∷ [])) e
 
 pub figure-put : (v : Figure) (at : ℕ) (b f : List ℕ) → at + 4 ≤ length b → f ≡ figureBytes v
     → set (set (set (set b at (byte f 0)) (at + 1) (byte f 1)) (at + 2) (byte f 2)) (at + 3) (byte f 3) ≡ splice at (figureBytes v) b

@@ -1,11 +1,11 @@
--- Bytes written: eight stores are a cell, a lent part that comes back is a splice, and splices side by side are one.
--- Relies on the layout of the crate model; the proofs of cells, registers and records rely on it.
+-- Bytes written: eight stores are a cell, a lent part that comes back is a splice, and three parts side by side are a record.
+-- Relies on the layout and the laws on splices of the crate model; the proofs of cells, registers and records rely on it.
 use mathlib.Core.Path.{_≡_, refl, sym, ap, _∙_}
 use mathlib.Core.List.{List, [], _∷_, _++_, append-assoc, append-nil}
-use Prim.Native.Nat.{ℕ, _+_, _-_, _≤_}
+use Prim.Native.Nat.{ℕ, _+_, _-_}
 use native.Mathlib.Omega.{arith}
-use lib.ListN.{length, take, drop, length-append}
-use lib.Seq.{sets, sets-eq, take-at, drop-append-add, drop-drop, drop-length, length-take-le}
+use lib.ListN.{length, take, drop}
+use lib.Seq.{sets, sets-eq, drop-drop, drop-length}
 use borrow.Rule.Slice.PartMut.{putMid}
 use Rattle.model.specs.declared.Record.{Record}
 use Rattle.model.specs.declared.Register.{Register}
@@ -13,6 +13,7 @@ use Rattle.model.specs.Bytes.{byte, digits, splice}
 use Rattle.model.specs.Figure.{figureBytes}
 use Rattle.model.specs.Layout.{layRegister, layRecord}
 use Rattle.model.proofs.Basics.Parts.{listed, part-listed, part-whole}
+use Rattle.model.proofs.Basics.Splices.{splice-join}
 
 -- the eight elements of a list of eight
 abbrev pub eight : List ℕ → List ℕ
@@ -35,27 +36,6 @@ lent-back at len b v w k e =
     ends : at + (at + len - at) ≡ at + length w
     ends = omega arith
 
--- the second is put in where the first ends
-pub splice-join : (at mid : ℕ) (u v b : List ℕ) → mid ≡ at + length u → mid + length v ≤ length b
-    → splice mid v (splice at u b) ≡ splice at (u ++ v) b
-unfolding splice
-splice-join at mid u v b e h = (λ i. before i ++ v ++ after i) ∙ ap (λ (l : List ℕ). l ++ drop (at + length (u ++ v)) b) (append-assoc (take at b) u v)
-  where
-    front : length (take at b ++ u) ≡ mid
-    front = length-append (take at b) u ∙ omega (arith, length-take-le at b (omega arith))
-
-    before : take mid (take at b ++ u ++ drop (at + length u) b) ≡ take at b ++ u
-    before = take-at (take at b ++ u) (drop (at + length u) b) mid front
-
-    ends : at + length u + length v ≡ at + length (u ++ v)
-    ends = omega (arith, length-append u v)
-
-    after : drop (mid + length v) (take at b ++ u ++ drop (at + length u) b) ≡ drop (at + length (u ++ v)) b
-    after =
-        ap (λ (n : ℕ). drop (n + length v) (take at b ++ u ++ drop (at + length u) b)) (sym front)
-        ∙ drop-append-add (take at b ++ u) (drop (at + length u) b) (length v) ∙ drop-drop (length v) (at + length u) b
-        ∙ ap (λ (n : ℕ). drop n b) ends
-
 pub register-laid : (r : Register) (f l : List ℕ) → f ≡ figureBytes (r .figure)
     → l ≡ r .mark ∷ r .island ∷ 0 ∷ 0 ∷ byte f 0 ∷ byte f 1 ∷ byte f 2 ∷ byte f 3 ∷ [] → l ≡ layRegister r
 unfolding layRegister figureBytes digits
@@ -69,16 +49,16 @@ length-register r = refl
 abbrev pub pair : List ℕ → List ℕ → List ℕ
 pair v x = byte v 0 ∷ byte v 1 ∷ byte v 2 ∷ byte v 3 ∷ byte x 0 ∷ byte x 1 ∷ byte x 2 ∷ byte x 3 ∷ []
 
-pub record-laid : (r : Record) (at : ℕ) (b b1 b2 b3 v x y : List ℕ) → at + 24 ≤ length b
+pub record-laid : (r : Record) (at : ℕ) (b b1 b2 b3 v x y : List ℕ)
     → v ≡ figureBytes (r .proposal) → x ≡ figureBytes (r .carried) → y ≡ figureBytes (r .best)
     → b1 ≡ splice at (r .phase ∷ r .position ∷ r .island ∷ r .seen ∷ r .highest ∷ r .flag ∷ 0 ∷ 0 ∷ []) b
     → b2 ≡ splice (at + 8) (pair v x) b1
     → b3 ≡ splice (at + 16) (byte y 0 ∷ byte y 1 ∷ byte y 2 ∷ byte y 3 ∷ 0 ∷ 0 ∷ 0 ∷ 0 ∷ []) b2
     → b3 ≡ splice at (layRecord r) b
 unfolding layRecord figureBytes digits
-record-laid r at b b1 b2 b3 v x y h ev ex ey e1 e2 e3 =
-    e3 ∙ ap (splice (at + 16) last) (e2 ∙ ap (splice (at + 8) (pair v x)) e1 ∙ splice-join at (at + 8) head (pair v x) b refl (omega arith))
-    ∙ splice-join at (at + 16) (head ++ pair v x) last b refl (omega arith)
+record-laid r at b b1 b2 b3 v x y ev ex ey e1 e2 e3 =
+    e3 ∙ ap (splice (at + 16) last) (e2 ∙ ap (splice (at + 8) (pair v x)) e1 ∙ splice-join at head (pair v x) b)
+    ∙ splice-join at (head ++ pair v x) last b
     ∙ (λ i. splice at (head ++ pair (ev i) (ex i) ++ (byte (ey i) 0 ∷ byte (ey i) 1 ∷ byte (ey i) 2 ∷ byte (ey i) 3 ∷ 0 ∷ 0 ∷ 0 ∷ 0 ∷ [])) b)
   where
     head : List ℕ

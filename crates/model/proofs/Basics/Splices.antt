@@ -1,11 +1,13 @@
--- A part of a list of bytes after a splice: what was spliced in, or what stood there before.
--- Relies on Bytes; the laws on boards rely on it.
+-- A part of a list of bytes after a splice: what was spliced in, or what stood there before. Splices that are one: of no byte,
+-- of one byte, and of two lists side by side.
+-- Relies on Bytes; the laws on boards and on lines that are written piece by piece rely on it.
 use mathlib.Core.Path.{_≡_, sym, ap, _∙_, subst}
-use mathlib.Core.List.{List, _++_}
-use Prim.Native.Nat.{ℕ, _+_, _-_, _≤_, _<_}
+use mathlib.Core.List.{List, [], _∷_, _++_, append-nil}
+use Prim.Native.Nat.{ℕ, zero, suc, _+_, _-_, _≤_, _<_}
+use native.Mathlib.Nat.{add-zero, zero-add, suc-add}
 use native.Mathlib.Omega.{arith}
-use lib.ListN.{length, take, drop, getD, length-append, length-take, length-drop, List·getD-append}
-use lib.Seq.{length-take-le, ext-getD, getD-take, getD-drop, getD-append-add}
+use lib.ListN.{length, take, drop, getD, set, length-append, length-take, length-drop, take-append-drop, drop-of-length-le, List·getD-append}
+use lib.Seq.{length-take-le, take-all, take-append-seam, drop-append-add, drop-drop, ext-getD, getD-take, getD-drop, getD-append-add, sets-eq}
 use Rattle.model.specs.Bytes.{byte, part, splice}
 
 pub length-part : (at len : ℕ) (b : List ℕ) → at + len ≤ length b → length (part at len b) ≡ len
@@ -77,3 +79,29 @@ module _ (at : ℕ) (v b : List ℕ) (fits : at + length v ≤ length b) where
 
   pub part-after : (from len : ℕ) → at + length v ≤ from → from + len ≤ length b → part from len (splice at v b) ≡ part from len b
   part-after from len h k = part-as from len k (λ i l. byte-from from i h)
+
+-- ---- splices that are one
+
+pub splice-none : (at : ℕ) (b : List ℕ) → splice at [] b ≡ b
+unfolding splice
+splice-none at b =
+    ap (λ (l : List ℕ). l ++ drop (at + 0) b) (append-nil (take at b)) ∙ ap (λ (n : ℕ). take at b ++ drop n b) (add-zero at) ∙ take-append-drop at b
+
+pub splice-set : (at a : ℕ) (b : List ℕ) → at < length b → set b at a ≡ splice at (a ∷ []) b
+unfolding splice
+splice-set at a b h = sets-eq (a ∷ []) b at (omega arith)
+
+-- past the end of the bytes the lists stand one behind the other
+joined : (n m : ℕ) (u v : List ℕ) → length u ≤ n → length u ≤ m → take n (u ++ []) ++ v ++ drop m (u ++ []) ≡ u ++ v ++ []
+joined n m u v h l =
+    (λ i. take n (append-nil u i) ++ v ++ drop m (append-nil u i)) ∙ (λ i. take-all n u h i ++ v ++ drop-of-length-le u {i = m} l i)
+
+-- the second is put in where the first ends
+pub splice-join : (at : ℕ) (u v b : List ℕ) → splice (at + length u) v (splice at u b) ≡ splice at (u ++ v) b
+unfolding splice
+splice-join zero u v b =
+    simp zero-add
+    ((λ i. take-append-seam u (drop (length u) b) i ++ v ++ (drop-append-add u (drop (length u) b) (length v) ∙ drop-drop (length v) (length u) b) i)
+    ∙ ap (λ (n : ℕ). u ++ v ++ drop n b) (sym (length-append u v)))
+splice-join (suc at) u v [] = simp suc-add (joined (suc (at + length u)) (suc (at + length u + length v)) u v (omega arith) (omega arith))
+splice-join (suc at) u v (x ∷ b) = simp suc-add (ap (λ (l : List ℕ). x ∷ l) (splice-join at u v b))

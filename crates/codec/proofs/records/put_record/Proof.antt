@@ -72,7 +72,7 @@ returns : tie.Need-returns
 returns c =
     let start = c .before .before .before .before .before .before .before .before .before .before .before .before .before .before .before .before .before .before .before in
     let g = start .good in
-    record-laid (start .args .r) _ _ _ _ _ _ _ _ (start .pre)
+    record-laid (start .args .r) _ _ _ _ _ _ _ _
     (passed (start .args .r .proposal) (search needs) _ (c .before .before .before .before .before .before .before .before .before .before .before .before .before .before .before .before .figure-bytes .ensures))
     (passed (start .args .r .carried) (search needs) _ (c .before .before .before .before .before .before .before .before .before .before .before .before .before .before .figure-bytes2 .ensures))
     (passed (start .args .r .best) (search needs) _ (c .before .before .before .before .before .before .before .before .before .before .before .before .figure-bytes3 .ensures))
