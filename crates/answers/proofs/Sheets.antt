@@ -11,12 +11,15 @@ use lib.Seq.{take-length, drop-drop}
 use borrow.Author.Tests.{le-leb, lt-leb, lt-ltb, le-ltb, leb-true, leb-false}
 use Rattle.bytes.specs.Bytes.{slice, indexOf, indexAfter}
 use Rattle.model.specs.Layout.{boardLength}
+use Rattle.model.specs.Sheet as model
 use Rattle.model.specs.Sheet.{refusedText, onFirst, linesOf, printed, playLine, playSheet}
 use Rattle.shown.specs.declared.line.Line.{Line}
-use Rattle.shown.specs.Puts.{Holds, Puts}
+use Rattle.shown.specs.Puts.{Holds, Puts, Room}
+use Rattle.shown.proofs.Putting.{puts-holds}
+use Rattle.shown.proofs.Rooms.{holds-room}
+use Rattle.shown.proofs.Bounds.{refused-short}
 use Rattle.player.specs.declared.line.Played.{Played}
 use Rattle.player.specs.Played.{Plays}
-use Rattle.player.proofs.Laws.Playing.{refused-short}
 use Rattle.answers.specs.Answered.{lineIn, Answered, ended, refusedWhole, lineAnswered, answerAt, Answers, playAll, SheetPrinted}
 
 -- ---- the line in front
@@ -113,7 +116,7 @@ module _ (s : List ℕ) (at laid : ℕ) (m : List ℕ) where
   unfolding refusedWhole
   too-long line next h l q p =
       subst (λ (a : Answered). Answers a (record { line = next; laid = laid; next = length s }) m) (sym (at-refused s at laid m l h))
-      (record { line = p .holds (refusedText 1) q; laid = refl; next = refl; memory = refl })
+      (record { line = puts-holds p (refusedText 1) q; laid = refl; next = refl; memory = refl })
 
   -- the line was played, and the sheet goes on behind its LF
   pub goes-on : (end : ℕ) (r : Played) (d : List ℕ) (next : Line) → length s ≤ 32768 → at < length s → end ≡ at + indexOf 10 (slice at (length s) s)
@@ -123,7 +126,7 @@ module _ (s : List ℕ) (at laid : ℕ) (m : List ℕ) where
   goes-on end r d next h l e p q =
       subst (λ (a : Answered). Answers a (record { line = next; laid = r .laid; next = end + 1 }) d) (sym (at-line s at laid m l h))
       (record {
-        line = q .holds (playLine laid m (lineIn (drop at s)) .printed) (plays .line);
+        line = puts-holds q (playLine laid m (lineIn (drop at s)) .printed) (plays .line);
         laid = plays .laid;
         next = omega (arith, place, lf-found (drop at s) .0);
         memory = plays .memory;
@@ -141,8 +144,12 @@ module _ (s : List ℕ) (at laid : ℕ) (m : List ℕ) where
       plays : Plays (playLine laid m (lineIn (drop at s))) r d
       plays = subst (λ (t : List ℕ). Plays (playLine laid m t) r d) taken p
 
-pub refused-room : (line : Line) → Holds line (refusedText 1) → line .len < 512
-refused-room line h = omega (arith, h .len, refused-short 1)
+-- room for the LF
+pub refused-room : (line : Line) → Holds line (refusedText 1) → Room line (10 ∷ [])
+refused-room line h = holds-room (refusedText 1) (10 ∷ []) h (omega (arith, refused-short 1))
+
+pub played-room : (p : model.Played) (r : Played) (d : List ℕ) → Plays p r d → Room (r .line) (10 ∷ [])
+played-room p r d h = holds-room (p .printed) (10 ∷ []) (h .line) (omega (arith, h .short))
 
 -- ---- what is still to be printed
 

@@ -1,8 +1,8 @@
--- The lines of a run sheet's forms piece by piece: the room that a number takes, and the order of the pieces.
--- Relies on Putting, Decimals and Bounds; the proofs of src/answer.rt rely on it.
-use mathlib.Core.Path.{_≡_, subst}
+-- The lines of a run sheet's forms piece by piece: the room that each piece finds, and their order.
+-- Relies on Putting, Rooms and Bounds; the proofs of src/answer.rt rely on it.
+use mathlib.Core.Path.{_≡_, sym, subst}
 use mathlib.Core.List.{List, [], _++_, append-assoc}
-use Prim.Native.Nat.{ℕ, _+_, _≤_}
+use Prim.Native.Nat.{ℕ, _<_}
 use native.Mathlib.Omega.{arith}
 use lib.ListN.{length}
 use Rattle.model.specs.Figure.{Figure}
@@ -10,27 +10,17 @@ use Rattle.model.specs.Show.{text, decimal, signed}
 use Rattle.model.specs.Calls.{ran}
 use Rattle.model.specs.Sheet.{refusedText, laidText, proposedText, ranText}
 use Rattle.shown.specs.declared.line.Line.{Line}
-use Rattle.shown.specs.Puts.{Holds, Puts}
+use Rattle.shown.specs.Puts.{Holds, Puts, Room}
 use Rattle.shown.specs.Texts.{twoNumbers}
-use Rattle.shown.proofs.Putting.{puts-then}
-use Rattle.shown.proofs.Decimals.{length-any}
-use Rattle.shown.proofs.Bounds.{length-signed}
+use Rattle.shown.proofs.Putting.{puts-then, puts-holds}
+use Rattle.shown.proofs.Rooms.{Rooms, rooms, rooms-three, rooms-four, holds-room, room-same}
+use Rattle.shown.proofs.Bounds.{refused-short, laid-short, proposed-short, ran-short}
 
--- ---- room: ten digits and a sign at most
+-- ---- two numbers
 
-pub fits-decimal : (n x : ℕ) → n ≤ 502 → n + length (decimal x) ≤ 512
-fits-decimal n x h = omega (arith, length-any x)
-
-pub fits-figure : (n : ℕ) (v : Figure) → n ≤ 501 → n + length (signed v) ≤ 512
-fits-figure n v h = omega (arith, length-signed v)
-
-pub after-decimal : {line r : Line} (x : ℕ) → Puts line (decimal x) r → r .len ≤ line .len + 10
-after-decimal x p = omega (arith, p .len, length-any x)
-
-pub after-figure : {line r : Line} (v : Figure) → Puts line (signed v) r → r .len ≤ line .len + 11
-after-figure v p = omega (arith, p .len, length-signed v)
-
--- ---- the order of the pieces
+pub two-rooms : {line : Line} (x y : ℕ) → Room line (twoNumbers x y) → Rooms line (decimal x) (text " ") (decimal y) (text ")") []
+unfolding twoNumbers
+two-rooms x y h = rooms-four (decimal x) (text " ") (decimal y) (text ")") h
 
 pub puts-two : {line a b d r : Line} (x y : ℕ) → Puts line (decimal x) a → Puts a (text " ") b → Puts b (decimal y) d → Puts d (text ")") r
     → Puts line (twoNumbers x y) r
@@ -41,22 +31,50 @@ puts-two x y p q s t = puts-then (puts-then (puts-then p q) s) t
 two-behind : (w a b c d : List ℕ) → w ++ (a ++ b ++ c ++ d) ≡ w ++ a ++ b ++ c ++ d
 two-behind w a b c d = simp append-assoc
 
-module _ {none a r : Line} (h : Holds none []) where
-  pub holds-refused : {d : Line} (k : ℕ) → Puts none (text "(refused ") a → Puts a (decimal k) d → Puts d (text ")") r → Holds r (refusedText k)
+laid-is : (n K : ℕ) → text "(laid " ++ twoNumbers n K ≡ laidText n K
+unfolding laidText twoNumbers
+laid-is n K = two-behind (text "(laid ") (decimal n) (text " ") (decimal K) (text ")")
+
+ran-is : (s t : ℕ) → text "(ran " ++ twoNumbers s t ≡ ranText (ran s t)
+unfolding ranText twoNumbers
+ran-is s t = two-behind (text "(ran ") (decimal s) (text " ") (decimal t) (text ")")
+
+-- ---- the lines, put together in an empty one
+
+module _ {none : Line} (h : Holds none []) where
+  -- a word and two numbers have room if their whole has
+  room-two : (w l : List ℕ) (x y : ℕ) → w ++ twoNumbers x y ≡ l → length l < 512 → Room none (w ++ twoNumbers x y)
+  room-two w l x y e n = room-same (sym e) (holds-room [] l h (omega arith))
+
+  pub refused-rooms : (k : ℕ) → Rooms none (text "(refused ") (decimal k) (text ")") [] []
   unfolding refusedText
-  holds-refused k p q s = puts-then (puts-then p q) s .holds [] h
+  refused-rooms k = rooms-three (text "(refused ") (decimal k) (text ")") (holds-room [] (refusedText k) h (omega (arith, refused-short k)))
 
-  pub holds-laid : (n K : ℕ) → Puts none (text "(laid ") a → Puts a (twoNumbers n K) r → Holds r (laidText n K)
-  unfolding laidText twoNumbers
-  holds-laid n K p q = subst (Holds r) (two-behind (text "(laid ") (decimal n) (text " ") (decimal K) (text ")")) (puts-then p q .holds [] h)
+  pub laid-room : (n K : ℕ) → Room none (text "(laid " ++ twoNumbers n K)
+  laid-room n K = room-two (text "(laid ") (laidText n K) n K (laid-is n K) (laid-short n K)
 
-  pub holds-ran : (s t : ℕ) → Puts none (text "(ran ") a → Puts a (twoNumbers s t) r → Holds r (ranText (ran s t))
-  unfolding ranText twoNumbers
-  holds-ran s t p q = subst (Holds r) (two-behind (text "(ran ") (decimal s) (text " ") (decimal t) (text ")")) (puts-then p q .holds [] h)
+  pub ran-room : (s t : ℕ) → Room none (text "(ran " ++ twoNumbers s t)
+  ran-room s t = room-two (text "(ran ") (ranText (ran s t)) s t (ran-is s t) (ran-short s t)
 
-  -- z is the figure that the code passed on
-  pub holds-proposed : {b d e : Line} (i : ℕ) (v z : Figure) → Puts none (text "(proposed ") a → Puts a (decimal i) b → Puts b (text " ") d
-      → Puts d (signed z) e → Puts e (text ")") r → z ≡ v → Holds r (proposedText i v)
+  pub proposed-rooms : (i : ℕ) (v : Figure) → Rooms none (text "(proposed ") (decimal i) (text " ") (signed v) (text ")")
   unfolding proposedText
-  holds-proposed i v z p q s t u l =
-      subst (λ (x : Figure). Holds r (proposedText i x)) l (puts-then (puts-then (puts-then (puts-then p q) s) t) u .holds [] h)
+  proposed-rooms i v =
+      rooms (text "(proposed ") (decimal i) (text " ") (signed v) (text ")") (holds-room [] (proposedText i v) h (omega (arith, proposed-short i v)))
+
+  module _ {a r : Line} where
+    pub holds-refused : {d : Line} (k : ℕ) → Puts none (text "(refused ") a → Puts a (decimal k) d → Puts d (text ")") r → Holds r (refusedText k)
+    unfolding refusedText
+    holds-refused k p q s = puts-holds (puts-then (puts-then p q) s) [] h
+
+    pub holds-laid : (n K : ℕ) → Puts none (text "(laid ") a → Puts a (twoNumbers n K) r → Holds r (laidText n K)
+    holds-laid n K p q = subst (Holds r) (laid-is n K) (puts-holds (puts-then p q) [] h)
+
+    pub holds-ran : (s t : ℕ) → Puts none (text "(ran ") a → Puts a (twoNumbers s t) r → Holds r (ranText (ran s t))
+    holds-ran s t p q = subst (Holds r) (ran-is s t) (puts-holds (puts-then p q) [] h)
+
+    -- z is the figure that the code passed on
+    pub holds-proposed : {b d e : Line} (i : ℕ) (v z : Figure) → Puts none (text "(proposed ") a → Puts a (decimal i) b → Puts b (text " ") d
+        → Puts d (signed z) e → Puts e (text ")") r → z ≡ v → Holds r (proposedText i v)
+    unfolding proposedText
+    holds-proposed i v z p q s t u l =
+        subst (λ (x : Figure). Holds r (proposedText i x)) l (puts-holds (puts-then (puts-then (puts-then (puts-then p q) s) t) u) [] h)

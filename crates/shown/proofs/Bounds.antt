@@ -1,5 +1,6 @@
--- What a caller of the crate needs beside its contracts: how long a status and the whole line can be, and how the line of
--- `show` is made of statuses. Relies on Decimals and Statuses; the call that shows a board relies on it.
+-- What a caller of the crate needs beside its contracts: how long a status, the line of `show` and the lines of a run sheet can
+-- be, and how the line of `show` is made of statuses.
+-- Relies on Decimals and Statuses; the lines of a run sheet, the call that shows a board and the player rely on it.
 use mathlib.Core.Path.{_≡_, ap}
 use mathlib.Core.List.{List, _++_, append-assoc}
 use mathlib.Core.Option.{none}
@@ -13,7 +14,8 @@ use Rattle.model.specs.Listing.{writing, reading, has-decided, is-spent, Statio
 use Rattle.model.specs.Layout.{stationOf}
 use Rattle.model.specs.Standing.{standingOf}
 use Rattle.model.specs.Show.{text, textFrom, signed, worded, standingText, status, statuses, shownLine, shownAs}
-use Rattle.model.specs.Calls.{stations, islands}
+use Rattle.model.specs.Calls.{stations, islands, ran}
+use Rattle.model.specs.Sheet.{refusedText, laidText, proposedText, ranText}
 use Rattle.model.specs.Told.{verdict, shownTold}
 use Rattle.model.proofs.Board.Good.{GoodStation, GoodStage}
 use Rattle.shown.specs.declared.line.Line.{Line}
@@ -69,7 +71,7 @@ good-island n K (active v (reading t c x p a)) h g = g .0
 good-island n K (active v (has-decided c x)) h g = g
 good-island n K (active v (is-spent c x)) h g = g
 
--- ---- the whole line
+-- ---- the line of `show`
 
 pub statuses-more : (k n K : ℕ) (b : List ℕ) → statuses (suc k) n K b ≡ statuses k n K b ++ statusOf (suc k) (stationOf n K k b)
 unfolding statuses statusOf
@@ -101,3 +103,21 @@ pub shown-is : (line : Line) (l : List ℕ) → Holds line l
     → shownTold (record { verdict = Accepted; bytes = line .bytes; len = line .len }) ≡ shownAs none l
 unfolding shownTold verdict shownAs
 shown-is line l h = λ i. record { refusal = none; line = h .bytes i; len = h .len i }
+
+-- ---- the lines of a run sheet: each leaves room for its LF
+
+pub refused-short : (k : ℕ) → length (refusedText k) < 512
+unfolding refusedText text textFrom
+refused-short k = simp length-append (omega (arith, length-any k))
+
+pub laid-short : (n K : ℕ) → length (laidText n K) < 512
+unfolding laidText text textFrom
+laid-short n K = simp length-append (omega (arith, length-any n, length-any K))
+
+pub proposed-short : (i : ℕ) (v : Figure) → length (proposedText i v) < 512
+unfolding proposedText text textFrom
+proposed-short i v = simp length-append (omega (arith, length-any i, length-signed v))
+
+pub ran-short : (s t : ℕ) → length (ranText (ran s t)) < 512
+unfolding ranText text textFrom
+ran-short s t = simp length-append (omega (arith, length-any s, length-any t))

@@ -1,5 +1,6 @@
 -- Laws that the proofs of the functions cite.
 pub mod Putting
+pub mod Rooms
 pub mod Decimals
 pub mod Signs
 pub mod Statuses

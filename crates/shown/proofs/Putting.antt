@@ -1,53 +1,60 @@
--- Putting texts at the end of a line: nothing, one byte, and one text after another.
--- Relies on Puts; the proofs of every function of the crate rely on it.
+-- Putting texts at the end of a line: nothing, one byte, and one text after another; and what a line with zeros after its text
+-- holds then.
+-- Relies on Puts and on the model's laws on splices; the proofs of every function of the crate rely on it, and so do its callers.
 use mathlib.Core.Path.{_≡_, refl, sym, ap, _∙_, subst}
-use mathlib.Core.List.{List, [], _∷_, _++_, append-assoc, append-nil}
-use Prim.Native.Nat.{ℕ, suc, _+_, _-_, _<_}
+use mathlib.Core.List.{List, [], _∷_, _++_}
+use Prim.Native.Nat.{ℕ, zero, suc, _+_, _-_, _<_}
+use native.Mathlib.Nat.{sub-zero, zero-sub, suc-sub-suc}
 use native.Mathlib.Numerals.{add-one}
 use native.Mathlib.Omega.{arith}
-use lib.ListN.{length, replicate, set, take, getD, length-append}
-use lib.Seq.{take-suc}
+use lib.ListN.{length, replicate, set, take, drop, getD, length-append}
+use lib.Seq.{take-suc, take-append-seam, drop-append-add}
+use Rattle.model.specs.Bytes.{splice}
+use Rattle.model.proofs.Basics.Splices.{splice-none, splice-set, splice-join}
 use Rattle.shown.specs.declared.line.Line.{Line}
-use Rattle.shown.specs.Puts.{Holds, Puts}
+use Rattle.shown.specs.Puts.{Holds, Puts, Room}
 
 pub puts-nothing : (line : Line) → Puts line [] line
-puts-nothing line = record { len = omega arith; holds = λ l h. subst (Holds line) (sym (append-nil l)) h }
+puts-nothing line = record { bytes = sym (splice-none (line .len) (line .bytes)); len = omega arith }
 
+-- two texts one after another are one splice of both
 pub puts-then : {line a r : Line} {s t : List ℕ} → Puts line s a → Puts a t r → Puts line (s ++ t) r
 puts-then {line} {a} {r} {s} {t} p q = record {
+  bytes = q .bytes ∙ (λ i. splice (p .len i) t (p .bytes i)) ∙ splice-join (line .len) s t (line .bytes);
   len = omega (arith, p .len, q .len, length-append s t);
-  holds = λ l h. subst (Holds r) (append-assoc l s t) (q .holds (l ++ s) (p .holds l h));
 }
 
 pub puts-same : {line r : Line} {s t : List ℕ} → s ≡ t → Puts line s r → Puts line t r
 puts-same {line} {r} e p = subst (λ (l : List ℕ). Puts line l r) e p
 
--- the byte goes where the zeros begin
-set-at : (l z : List ℕ) (a b : ℕ) → set (l ++ (a ∷ z)) (length l) b ≡ (l ++ (b ∷ [])) ++ z
-set-at [] z a b = refl
-set-at (x ∷ l) z a b = ap (λ (k : List ℕ). x ∷ k) (set-at l z a b)
-
-zeros-less : (n : ℕ) → n < 512 → _≡_ {A = List ℕ} (replicate (512 - n) 0) (0 ∷ replicate (512 - (n + 1)) 0)
-zeros-less n h =
-    let e : 512 - n ≡ suc (512 - (n + 1)) = omega arith in
-    ap {B = List ℕ} (λ (m : ℕ). replicate m 0) e
-
-pub puts-byte : (line : Line) (b : ℕ) → line .len < 512
+pub puts-byte : (line : Line) (b : ℕ) → Room line (b ∷ [])
     → Puts line (b ∷ []) (record { bytes = set (line .bytes) (line .len) b; len = line .len + 1 })
-puts-byte line b h = record { len = refl; holds = λ l g. record { bytes = stored l g; len = counted l g } }
+puts-byte line b h = record { bytes = splice-set (line .len) b (line .bytes) (omega (arith, h .size, h .fits)); len = refl }
+
+-- a text takes the place of as many zeros, as far as there are any
+zeros-left : (n m : ℕ) → _≡_ {A = List ℕ} (drop n (replicate m 0)) (replicate (m - n) 0)
+zeros-left zero m = sym (ap {B = List ℕ} (λ (k : ℕ). replicate k 0) (sub-zero m))
+zeros-left (suc n) zero = sym (ap {B = List ℕ} (λ (k : ℕ). replicate k 0) (zero-sub (suc n)))
+zeros-left (suc n) (suc m) = zeros-left n m ∙ sym (ap {B = List ℕ} (λ (k : ℕ). replicate k 0) (suc-sub-suc m n))
+
+-- the text of a line and the one that is put behind it
+pub puts-holds : {line r : Line} {t : List ℕ} → Puts line t r → (l : List ℕ) → Holds line l → Holds r (l ++ t)
+unfolding splice
+puts-holds {line} {r} {t} p l h = record { bytes = p .bytes ∙ (λ i. splice (h .len i) t (h .bytes i)) ∙ stored; len = counted }
   where
-    longer : (l : List ℕ) → length (l ++ (b ∷ [])) ≡ length l + 1
-    longer l = length-append l (b ∷ [])
+    both : length (l ++ t) ≡ length l + length t
+    both = length-append l t
 
-    counted : (l : List ℕ) → Holds line l → line .len + 1 ≡ length (l ++ (b ∷ []))
-    counted l g = omega (arith, g .len, longer l)
+    counted : r .len ≡ length (l ++ t)
+    counted = omega (arith, p .len, h .len, both)
 
-    stored : (l : List ℕ) → Holds line l → set (line .bytes) (line .len) b ≡ (l ++ (b ∷ [])) ++ replicate (512 - length (l ++ (b ∷ []))) 0
-    stored l g =
-        (λ i. set (g .bytes i) (g .len i) b)
-        ∙ ap (λ (z : List ℕ). set (l ++ z) (length l) b) (zeros-less (length l) (omega (arith, g .len)))
-        ∙ set-at l (replicate (512 - (length l + 1)) 0) 0 b
-        ∙ ap (λ (n : ℕ). (l ++ (b ∷ [])) ++ replicate (512 - n) 0) (sym (longer l))
+    less : 512 - length l - length t ≡ 512 - length (l ++ t)
+    less = omega (arith, both)
+
+    stored : splice (length l) t (l ++ replicate (512 - length l) 0) ≡ l ++ t ++ replicate (512 - length (l ++ t)) 0
+    stored =
+        (λ i. take-append-seam l (replicate (512 - length l) 0) i ++ t ++ drop-append-add l (replicate (512 - length l) 0) (length t) i)
+        ∙ ap (λ (z : List ℕ). l ++ t ++ z) (zeros-left (length t) (512 - length l) ∙ ap {B = List ℕ} (λ (n : ℕ). replicate n 0) less)
 
 -- one more byte of a word
 word-next : (word : List ℕ) (i : ℕ) → i < length word → take i word ++ (getD word i 0 ∷ []) ≡ take (i + 1) word

@@ -12,15 +12,20 @@ use Rattle.model.specs.Layout.{recordValue, ofPhase, writingOf, readingOf}
 use Rattle.model.specs.Standing.{standingOf}
 use Rattle.model.specs.Show.{text, textFrom, decimal, signed, worded, standingText, status}
 use Rattle.shown.specs.declared.line.Line.{Line}
-use Rattle.shown.specs.Puts.{Puts}
+use Rattle.shown.specs.Puts.{Puts, Room}
 use Rattle.shown.specs.Texts.{statusOf, standingBytes}
 use Rattle.shown.proofs.Putting.{puts-then}
+use Rattle.shown.proofs.Rooms.{Rooms, rooms, room-same}
 
 -- ---- the order of the pieces
 
 pub length-standing : (w : List ℕ) (c : ℕ) (v : Figure) → length (standingBytes w c v) ≡ length w + 1 + length (decimal c) + 1 + length (signed v)
 unfolding standingBytes text textFrom
 length-standing w c v = simp length-append
+
+pub standing-rooms : {line : Line} (w : List ℕ) (c : ℕ) (v : Figure) → Room line (standingBytes w c v) → Rooms line w (text " ") (decimal c) (text " ") (signed v)
+unfolding standingBytes
+standing-rooms w c v h = rooms w (text " ") (decimal c) (text " ") (signed v) h
 
 pub puts-standing : {line a b d e r : Line} (w : List ℕ) (c : ℕ) (v z : Figure) → Puts line w a → Puts a (text " ") b → Puts b (decimal c) d
     → Puts d (text " ") e → Puts e (signed z) r → z ≡ v → Puts line (standingBytes w c v) r
@@ -31,6 +36,10 @@ puts-standing {line = line} {r = r} w c v z p q s t u l =
 pub length-status : (i : ℕ) (s : Station Figure) → length (statusOf i s) ≡ 2 + length (decimal i) + 1 + length (status s) + 1
 unfolding statusOf text textFrom
 length-status i s = simp length-append
+
+pub status-rooms : {line : Line} (i : ℕ) (s : Station Figure) → Room line (statusOf i s) → Rooms line (text " (") (decimal i) (text " ") (status s) (text ")")
+unfolding statusOf
+status-rooms i s h = rooms (text " (") (decimal i) (text " ") (status s) (text ")") h
 
 pub puts-status : {line a b d e r : Line} (i : ℕ) (s : Station Figure) → Puts line (text " (") a → Puts a (decimal i) b → Puts b (text " ") d
     → Puts d (status s) e → Puts e (text ")") r → Puts line (statusOf i s) r
@@ -96,8 +105,8 @@ module _ (f : Record) (w : List ℕ) (z : Figure) (e : status (recordValue f) �
   same : standingBytes w (f .island) z ≡ status (recordValue f)
   same = ap (standingBytes w (f .island)) l ∙ sym e
 
-  pub room-as : (n : ℕ) → n + length (status (recordValue f)) ≤ 512 → n + length (standingBytes w (f .island) z) ≤ 512
-  room-as n h = subst (λ (b : List ℕ). n + length b ≤ 512) (sym same) h
+  pub room-as : {line : Line} → Room line (status (recordValue f)) → Room line (standingBytes w (f .island) z)
+  room-as h = room-same (sym same) h
 
   pub puts-as : {line r : Line} → Puts line (standingBytes w (f .island) z) r → Puts line (status (recordValue f)) r
   puts-as {line} {r} p = subst (λ (b : List ℕ). Puts line b r) same p

@@ -6,10 +6,9 @@ use crate::line::put_word;
 use crate::line::write_byte;
 use crate::number::write_decimal;
 use crate::number::write_figure;
-ghost use Prim.Native.Nat.{_+_, _≤_};
 ghost use Rattle.model.specs.Calls.{ran};
 ghost use Rattle.model.specs.Sheet.{refusedText, laidText, proposedText, ranText};
-ghost use Rattle.shown.specs.Puts.{Holds, Puts, lineOf};
+ghost use Rattle.shown.specs.Puts.{Holds, Puts, Room, lineOf};
 ghost use Rattle.shown.specs.Texts.{twoNumbers};
 
 pub fn refused_line(number: u8) -> Line
@@ -24,7 +23,7 @@ pub fn refused_line(number: u8) -> Line
 
 // Two numbers and the closing bracket.
 fn write_two(bytes: &mut [u8; 512], at: usize, a: u32, b: u32) -> usize
-    requires { ⌜ at + 22 ≤ 512 ⌝ }
+    requires { ⌜ Room (lineOf (now bytes) at) (twoNumbers a b) ⌝ }
     ensures { λ r. ⌜ Puts (lineOf (now (bytes .entry)) at) (twoNumbers a b) (lineOf (now (bytes .exit)) r) ⌝ }
 {
     let first = write_decimal(bytes, at, a);

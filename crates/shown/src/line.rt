@@ -1,9 +1,7 @@
 // A line of at most 512 bytes, by value or as lent bytes, and what is put at its end.
 // Relies on nothing; numbers, statuses and the lines of a run sheet rely on it.
 ghost use mathlib.Core.List.{[], _∷_};
-ghost use Prim.Native.Nat.{_+_, _≤_, _<_};
-ghost use lib.ListN.{length};
-ghost use Rattle.shown.specs.Puts.{Holds, Puts, lineOf};
+ghost use Rattle.shown.specs.Puts.{Holds, Puts, Room, lineOf};
 
 // The bytes after the first `len` are zero.
 pub struct Line {
@@ -23,7 +21,7 @@ pub fn empty() -> Line
 // A piece is written at a place of the lent bytes of a line, so that a text of many pieces copies no line; what is handed back
 // is where the piece ends.
 pub fn write_byte(bytes: &mut [u8; 512], at: usize, byte: u8) -> usize
-    requires { ⌜ at < 512 ⌝ }
+    requires { ⌜ Room (lineOf (now bytes) at) (byte ∷ []) ⌝ }
     ensures { λ r. ⌜ Puts (lineOf (now (bytes .entry)) at) (byte ∷ []) (lineOf (now (bytes .exit)) r) ⌝ }
 {
     bytes[at] = byte;
@@ -31,7 +29,7 @@ pub fn write_byte(bytes: &mut [u8; 512], at: usize, byte: u8) -> usize
 }
 
 pub fn write_word(bytes: &mut [u8; 512], at: usize, word: &[u8]) -> usize
-    requires { ⌜ at + length (now word) ≤ 512 ⌝ }
+    requires { ⌜ Room (lineOf (now bytes) at) (now word) ⌝ }
     ensures { λ r. ⌜ Puts (lineOf (now (bytes .entry)) at) (now (word .entry)) (lineOf (now (bytes .exit)) r) ⌝ }
 {
     let mut next = at;
@@ -46,7 +44,7 @@ pub fn write_word(bytes: &mut [u8; 512], at: usize, word: &[u8]) -> usize
 
 // The same on a line by value.
 pub fn put_byte(line: Line, byte: u8) -> Line
-    requires { ⌜ line .len < 512 ⌝ }
+    requires { ⌜ Room line (byte ∷ []) ⌝ }
     ensures { λ r. ⌜ Puts line (byte ∷ []) r ⌝ }
 {
     let mut bytes = line.bytes;
@@ -55,7 +53,7 @@ pub fn put_byte(line: Line, byte: u8) -> Line
 }
 
 pub fn put_word(line: Line, word: &[u8]) -> Line
-    requires { ⌜ line .len + length (now word) ≤ 512 ⌝ }
+    requires { ⌜ Room line (now word) ⌝ }
     ensures { λ r. ⌜ Puts line (now (word .entry)) r ⌝ }
 {
     let mut bytes = line.bytes;

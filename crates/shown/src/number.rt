@@ -3,10 +3,10 @@
 use crate::line::write_byte;
 use crate::line::write_word;
 ghost use mathlib.Core.Path.{_≡_};
-ghost use Prim.Native.Nat.{_+_, _≤_};
+ghost use Prim.Native.Nat.{_≤_};
 ghost use lib.ListN.{length, drop};
 ghost use Rattle.model.specs.Show.{decimal, signed};
-ghost use Rattle.shown.specs.Puts.{Puts, lineOf};
+ghost use Rattle.shown.specs.Puts.{Puts, Room, lineOf};
 
 // The digits of a number: they stand at the end of the bytes, the first of them at `from`.
 struct Digits {
@@ -31,7 +31,7 @@ fn digits_of(x: u32) -> Digits
 }
 
 pub fn write_decimal(bytes: &mut [u8; 512], at: usize, x: u32) -> usize
-    requires { ⌜ at + length (decimal x) ≤ 512 ⌝ }
+    requires { ⌜ Room (lineOf (now bytes) at) (decimal x) ⌝ }
     ensures { λ r. ⌜ Puts (lineOf (now (bytes .entry)) at) (decimal x) (lineOf (now (bytes .exit)) r) ⌝ }
 {
     let digits = digits_of(x);
@@ -41,7 +41,7 @@ pub fn write_decimal(bytes: &mut [u8; 512], at: usize, x: u32) -> usize
 }
 
 pub fn write_figure(bytes: &mut [u8; 512], at: usize, v: i32) -> usize
-    requires { ⌜ at + length (signed v) ≤ 512 ⌝ }
+    requires { ⌜ Room (lineOf (now bytes) at) (signed v) ⌝ }
     ensures { λ r. ⌜ Puts (lineOf (now (bytes .entry)) at) (signed v) (lineOf (now (bytes .exit)) r) ⌝ }
 {
     if v < 0 {

@@ -9,11 +9,9 @@ use crate::line::write_word;
 use crate::number::write_decimal;
 use crate::number::write_figure;
 use model::Record;
-ghost use Prim.Native.Nat.{_+_, _≤_};
-ghost use lib.ListN.{length};
 ghost use Rattle.model.specs.Layout.{recordValue};
 ghost use Rattle.model.specs.Show.{status, text};
-ghost use Rattle.shown.specs.Puts.{Holds, Puts, lineOf};
+ghost use Rattle.shown.specs.Puts.{Holds, Puts, Room, lineOf};
 ghost use Rattle.shown.specs.Texts.{statusOf, standingBytes};
 
 pub fn opened() -> Line
@@ -24,7 +22,7 @@ pub fn opened() -> Line
 
 // One station's part of the line; `i` is its number, from 1.
 pub fn write_status(bytes: &mut [u8; 512], at: usize, i: u8, station: Record) -> usize
-    requires { ⌜ at + length (statusOf i (recordValue station)) ≤ 512 ⌝ }
+    requires { ⌜ Room (lineOf (now bytes) at) (statusOf i (recordValue station)) ⌝ }
     ensures { λ r. ⌜ Puts (lineOf (now (bytes .entry)) at) (statusOf i (recordValue station)) (lineOf (now (bytes .exit)) r) ⌝ }
 {
     let open = write_word(bytes, at, b" (");
@@ -35,7 +33,7 @@ pub fn write_status(bytes: &mut [u8; 512], at: usize, i: u8, station: Record) ->
 }
 
 fn write_phase(bytes: &mut [u8; 512], at: usize, station: Record) -> usize
-    requires { ⌜ at + length (status (recordValue station)) ≤ 512 ⌝ }
+    requires { ⌜ Room (lineOf (now bytes) at) (status (recordValue station)) ⌝ }
     ensures { λ r. ⌜ Puts (lineOf (now (bytes .entry)) at) (status (recordValue station)) (lineOf (now (bytes .exit)) r) ⌝ }
 {
     if station.phase == 0 {
@@ -51,7 +49,7 @@ fn write_phase(bytes: &mut [u8; 512], at: usize, station: Record) -> usize
 }
 
 fn write_standing(bytes: &mut [u8; 512], at: usize, word: &[u8], island: u8, figure: i32) -> usize
-    requires { ⌜ at + length (standingBytes (now word) island figure) ≤ 512 ⌝ }
+    requires { ⌜ Room (lineOf (now bytes) at) (standingBytes (now word) island figure) ⌝ }
     ensures { λ r. ⌜ Puts (lineOf (now (bytes .entry)) at) (standingBytes (now (word .entry)) island figure) (lineOf (now (bytes .exit)) r) ⌝ }
 {
     let named = write_word(bytes, at, word);

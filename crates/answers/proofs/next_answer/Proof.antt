@@ -2,7 +2,7 @@
 -- Relies on the laws of a sheet line by line.
 use borrow.Author.Needs.{needs}
 use native.Mathlib.Omega.{arith}
-use Rattle.answers.proofs.Sheets.{at-end, too-long, goes-on, refused-room}
+use Rattle.answers.proofs.Sheets.{at-end, too-long, goes-on, refused-room, played-room}
 use Rattle.answers.proofs.next_answer.Statement.{statement}
 use Rattle.answers.proofs.next_answer.Tie as tie
 
@@ -37,7 +37,7 @@ play-line-requires : tie.Need-play-line-requires
 play-line-requires c κs = search needs
 
 put-byte-requires-2 : tie.Need-put-byte-requires-2
-put-byte-requires-2 c κs = search needs
+put-byte-requires-2 c κs = played-room _ _ _ (c .before .before .play-line .ensures)
 
 add-t7 : tie.Need-add-t7
 add-t7 c = search needs

@@ -21,8 +21,10 @@ use Rattle.model.specs.Told.{verdict, shownTold}
 use Rattle.model.proofs.Board.Values.{sound-station}
 use Rattle.model.proofs.Calls.Refusals.{Board, board-of, board-passes, board-first, unless-passes}
 use Rattle.shown.specs.declared.line.Line.{Line}
-use Rattle.shown.specs.Puts.{Holds, Puts}
+use Rattle.shown.specs.Puts.{Holds, Puts, Room}
 use Rattle.shown.specs.Texts.{statusOf, islandShown}
+use Rattle.shown.proofs.Putting.{puts-holds}
+use Rattle.shown.proofs.Rooms.{holds-room}
 use Rattle.shown.proofs.Bounds.{status-bound, good-island, statuses-more, statuses-bound, line-bound, shown-is}
 use Rattle.calls.specs.Showing.{openTo, Opened}
 use Rattle.model.proofs.Board.Places.{record-inside}
@@ -53,10 +55,10 @@ module _ (b : List ℕ) (sound : boardRefusal b none ≡ none) where
 
   -- one more status fits
   pub fits-one : (line : Line) (j i : ℕ) (f : Record) → Holds line (openTo j b) → j < getD b 0 0 → i ≡ j + 1
-      → recordValue f ≡ stationOf (stations b) (islands b) j b → line .len + length (statusOf i (recordValue f)) ≤ 512
+      → recordValue f ≡ stationOf (stations b) (islands b) j b → Room line (statusOf i (recordValue f))
   unfolding stations
   fits-one line j i f q l e r =
-      omega (arith, q .len, open-short j (omega arith), h .shape .stations-high, bound)
+      holds-room (openTo j b) (statusOf i (recordValue f)) q (omega (arith, open-short j (omega arith), h .shape .stations-high, bound))
     where
       bound : length (statusOf i (recordValue f)) ≤ 28
       bound =
@@ -72,7 +74,7 @@ module _ (b : List ℕ) (sound : boardRefusal b none ≡ none) where
       ∙ ap (λ (l : List ℕ). text "(stations" ++ l)
       ((λ k. statuses j (stations b) (islands b) b ++ statusOf ((e ∙ add-one j) k) (r k))
       ∙ sym (statuses-more j (stations b) (islands b) b) ∙ ap (λ (k : ℕ). statuses k (stations b) (islands b) b) (sym (add-one j))))
-      (p .holds (openTo j b) q)
+      (puts-holds p (openTo j b) q)
 
   pub begins : (line : Line) → Holds line (text "(stations") → Holds line (openTo 0 b)
   unfolding openTo statuses
@@ -82,14 +84,14 @@ module _ (b : List ℕ) (sound : boardRefusal b none ≡ none) where
   unfolding Opened stations
   all-open line j q l m = subst (λ (k : ℕ). Holds line (openTo k b)) (omega arith) q
 
-  pub closes : (line : Line) → Opened b line → line .len < 512
-  unfolding Opened
-  closes line q = omega (arith, q .len, open-short (stations b) (omega arith))
+  pub closes : (line : Line) → Opened b line → Room line (text ")")
+  unfolding Opened text textFrom
+  closes line q = holds-room (openTo (stations b) b) (text ")") q (omega (arith, open-short (stations b) (omega arith)))
 
   pub shown-on : (line next : Line) → Opened b line → Puts line (text ")") next
       → shownTold (record { verdict = Accepted; bytes = next .bytes; len = next .len }) ≡ shownAs none (shownLine b)
   unfolding Opened openTo shownLine
-  shown-on line next q p = shown-is next (shownLine b) (p .holds (openTo (stations b) b) q)
+  shown-on line next q p = shown-is next (shownLine b) (puts-holds p (openTo (stations b) b) q)
 
   -- there is room behind the line
   pub line-short : length (shownLine b) ≤ 458

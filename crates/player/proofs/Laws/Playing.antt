@@ -7,7 +7,7 @@ use mathlib.Core.Option.{none, some}
 use Prim.Native.Nat.{ℕ, _-_, _<_, min}
 use native.Mathlib.Omega.{arith}
 use lib.Dec.{leb}
-use lib.ListN.{length, take, drop, replicate, length-append, take-append-drop}
+use lib.ListN.{length, take, drop, replicate, take-append-drop}
 use lib.Seq.{take-at}
 use borrow.Author.Tests.{eq-eqb, ne-eqb}
 use Rattle.model.specs.declared.Verdict.{Verdict}
@@ -19,7 +19,7 @@ use Rattle.model.specs.Figure.{Figure}
 use Rattle.model.specs.Layout.{boardLength, freshBoard}
 use Rattle.model.specs.Calls as calls
 use Rattle.model.specs.Calls.{After, Refusal, ran, unless, boardRefusal, shapeRefusal, unlessRefused}
-use Rattle.model.specs.Show.{text, textFrom, Shown, shownLine, shownAs}
+use Rattle.model.specs.Show.{Shown, shownLine, shownAs}
 use Rattle.model.specs.Show as shows
 use Rattle.model.specs.Told.{verdict, runTold, shownTold}
 use Rattle.model.specs.Forms.{expand}
@@ -29,31 +29,12 @@ use Rattle.model.specs.Sheet.{refusedText, orRefused, laidText, proposedText, r
 use Rattle.model.proofs.Calls.Refusals.{some-none, board-of, board-passes}
 use Rattle.shown.specs.declared.line.Line.{Line}
 use Rattle.shown.specs.Puts.{Holds}
-use Rattle.shown.proofs.Decimals.{length-any}
-use Rattle.shown.proofs.Bounds.{length-signed}
+use Rattle.shown.proofs.Bounds.{refused-short, laid-short, proposed-short, ran-short}
 use Rattle.calls.proofs.Laws.Showing as showing
 use Rattle.walk.specs.Walks.{RunsLine}
 use Rattle.player.specs.declared.line.Played.{Played}
 use Rattle.player.specs.Played.{Plays, TurnsDown, PlaysSteps}
 use Rattle.player.proofs.Laws.Parts.{part-taken, part-left}
-
--- ---- a printed line leaves room for its LF
-
-pub refused-short : (k : ℕ) → length (refusedText k) < 512
-unfolding refusedText text textFrom
-refused-short k = simp length-append (omega (arith, length-any k))
-
-laid-short : (n K : ℕ) → length (laidText n K) < 512
-unfolding laidText text textFrom
-laid-short n K = simp length-append (omega (arith, length-any n, length-any K))
-
-proposed-short : (i : ℕ) (v : Figure) → length (proposedText i v) < 512
-unfolding proposedText text textFrom
-proposed-short i v = simp length-append (omega (arith, length-any i, length-signed v))
-
-ran-short : (s t : ℕ) → length (ranText (ran s t)) < 512
-unfolding ranText text textFrom
-ran-short s t = simp length-append (omega (arith, length-any s, length-any t))
 
 -- ---- a line that is turned down
 

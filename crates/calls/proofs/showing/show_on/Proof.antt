@@ -10,6 +10,7 @@ stations-of-requires : tie.Need-stations-of-requires
 stations-of-requires c κs = search needs
 
 write-byte-requires : tie.Need-write-byte-requires
+unfolding text textFrom
 write-byte-requires c κs = closes _ (c .before .before .before .before .pre) _ (c .before .before .stations-of .ensures)
 
 returns : tie.Need-returns

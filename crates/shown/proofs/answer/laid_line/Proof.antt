@@ -1,9 +1,10 @@
 -- `answer::laid_line` meets its contract: the word and the two numbers in order are a law of Answers.
 use mathlib.Core.Path.{refl}
-use native.Mathlib.Omega.{arith}
 use borrow.Author.Needs.{needs}
 use Rattle.model.specs.Show.{text, textFrom}
-use Rattle.shown.proofs.Answers.{holds-laid}
+use Rattle.shown.specs.Texts.{twoNumbers}
+use Rattle.shown.proofs.Rooms.{room-first, room-next}
+use Rattle.shown.proofs.Answers.{laid-room, holds-laid}
 use Rattle.shown.proofs.answer.laid_line.Statement.{statement}
 use Rattle.shown.proofs.answer.laid_line.Tie as tie
 
@@ -14,10 +15,12 @@ slice-aggregate-put-word : tie.Need-slice-aggregate-put-word
 slice-aggregate-put-word c = refl
 
 put-word-requires : tie.Need-put-word-requires
-put-word-requires c κs = omega (arith, c .before .empty .ensures .len)
+unfolding text textFrom
+put-word-requires c κs = room-first (text "(laid ") (twoNumbers _ _) (laid-room (c .before .empty .ensures) (c .before .before .args .n) (c .before .before .args .k))
 
 write-two-requires : tie.Need-write-two-requires
-write-two-requires c κs = omega (arith, c .before .before .before .before .empty .ensures .len, c .before .before .put-word .ensures .len)
+unfolding text textFrom
+write-two-requires c κs = room-next (text "(laid ") (twoNumbers _ _) (laid-room (c .before .before .before .before .empty .ensures) _ _) (c .before .before .put-word .ensures)
 
 returns : tie.Need-returns
 unfolding text textFrom

@@ -1,10 +1,9 @@
 -- `answer::proposed_line` meets its contract: the pieces in order are a law of Answers.
 use mathlib.Core.Path.{refl}
-use native.Mathlib.Omega.{arith}
 use mir.Facts.{toZ-ofZ}
 use borrow.Author.Needs.{needs}
 use Rattle.model.specs.Show.{text, textFrom}
-use Rattle.shown.proofs.Answers.{fits-decimal, after-decimal, fits-figure, after-figure, holds-proposed}
+use Rattle.shown.proofs.Answers.{proposed-rooms, holds-proposed}
 use Rattle.shown.proofs.answer.proposed_line.Statement.{statement}
 use Rattle.shown.proofs.answer.proposed_line.Tie as tie
 
@@ -15,40 +14,25 @@ slice-aggregate-put-word : tie.Need-slice-aggregate-put-word
 slice-aggregate-put-word c = refl
 
 put-word-requires : tie.Need-put-word-requires
-put-word-requires c κs = omega (arith, c .before .empty .ensures .len)
+unfolding text textFrom
+put-word-requires c κs = proposed-rooms (c .before .empty .ensures) (c .before .before .args .station) (c .before .before .args .figure) .first
 
 write-decimal-requires : tie.Need-write-decimal-requires
-write-decimal-requires c κs = fits-decimal _ _ (omega (arith, c .before .before .before .before .empty .ensures .len, c .before .before .put-word .ensures .len))
+unfolding text textFrom
+write-decimal-requires c κs = proposed-rooms (c .before .before .before .before .empty .ensures) _ (c .before .before .before .before .before .args .figure) .second (c .before .before .put-word .ensures)
 
 write-byte-requires : tie.Need-write-byte-requires
-write-byte-requires c κs =
-    omega (
-      arith,
-      c .before .before .before .before .before .before .empty .ensures .len,
-      c .before .before .before .before .put-word .ensures .len,
-      after-decimal _ (c .before .write-decimal .ensures),
-    )
+unfolding text textFrom
+write-byte-requires c κs = proposed-rooms (c .before .before .before .before .before .before .empty .ensures) _ (c .before .before .before .before .before .before .before .args .figure) .third (c .before .before .before .before .put-word .ensures) (c .before .write-decimal .ensures)
 
 write-figure-requires : tie.Need-write-figure-requires
-write-figure-requires c κs =
-    fits-figure _ _ (omega (
-      arith,
-      c .before .before .before .before .before .before .before .before .empty .ensures .len,
-      c .before .before .before .before .before .before .put-word .ensures .len,
-      after-decimal _ (c .before .before .before .write-decimal .ensures),
-      c .before .write-byte .ensures .len,
-    ))
+unfolding text textFrom
+write-figure-requires c κs = proposed-rooms (c .before .before .before .before .before .before .before .before .empty .ensures) _ _ .fourth (c .before .before .before .before .before .before .put-word .ensures) (c .before .before .before .write-decimal .ensures) (c .before .write-byte .ensures)
 
 write-byte-requires-2 : tie.Need-write-byte-requires-2
+unfolding text textFrom
 write-byte-requires-2 c κs =
-    omega (
-      arith,
-      c .before .before .before .before .before .before .before .before .before .before .empty .ensures .len,
-      c .before .before .before .before .before .before .before .before .put-word .ensures .len,
-      after-decimal _ (c .before .before .before .before .before .write-decimal .ensures),
-      c .before .before .before .write-byte .ensures .len,
-      after-figure _ (c .before .write-figure .ensures),
-    )
+    proposed-rooms (c .before .before .before .before .before .before .before .before .before .before .empty .ensures) _ _ .fifth (c .before .before .before .before .before .before .before .before .put-word .ensures) (c .before .before .before .before .before .write-decimal .ensures) (c .before .before .before .write-byte .ensures) (c .before .write-figure .ensures)
 
 returns : tie.Need-returns
 unfolding text textFrom

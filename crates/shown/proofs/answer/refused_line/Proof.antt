@@ -1,9 +1,8 @@
 -- `answer::refused_line` meets its contract: the pieces in order are a law of Answers.
 use mathlib.Core.Path.{refl}
-use native.Mathlib.Omega.{arith}
 use borrow.Author.Needs.{needs}
 use Rattle.model.specs.Show.{text, textFrom}
-use Rattle.shown.proofs.Answers.{fits-decimal, after-decimal, holds-refused}
+use Rattle.shown.proofs.Answers.{refused-rooms, holds-refused}
 use Rattle.shown.proofs.answer.refused_line.Statement.{statement}
 use Rattle.shown.proofs.answer.refused_line.Tie as tie
 
@@ -14,19 +13,16 @@ slice-aggregate-put-word : tie.Need-slice-aggregate-put-word
 slice-aggregate-put-word c = refl
 
 put-word-requires : tie.Need-put-word-requires
-put-word-requires c κs = omega (arith, c .before .empty .ensures .len)
+unfolding text textFrom
+put-word-requires c κs = refused-rooms (c .before .empty .ensures) (c .before .before .args .number) .first
 
 write-decimal-requires : tie.Need-write-decimal-requires
-write-decimal-requires c κs = fits-decimal _ _ (omega (arith, c .before .before .before .before .empty .ensures .len, c .before .before .put-word .ensures .len))
+unfolding text textFrom
+write-decimal-requires c κs = refused-rooms (c .before .before .before .before .empty .ensures) _ .second (c .before .before .put-word .ensures)
 
 write-byte-requires : tie.Need-write-byte-requires
-write-byte-requires c κs =
-    omega (
-      arith,
-      c .before .before .before .before .before .before .empty .ensures .len,
-      c .before .before .before .before .put-word .ensures .len,
-      after-decimal _ (c .before .write-decimal .ensures),
-    )
+unfolding text textFrom
+write-byte-requires c κs = refused-rooms (c .before .before .before .before .before .before .empty .ensures) _ .third (c .before .before .before .before .put-word .ensures) (c .before .write-decimal .ensures)
 
 returns : tie.Need-returns
 unfolding text textFrom

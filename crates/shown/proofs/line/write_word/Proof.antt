@@ -8,6 +8,7 @@ use lib.ListN.{length, take}
 use lib.Seq.{take-all}
 use Rattle.shown.specs.Puts.{Puts, lineOf}
 use Rattle.shown.proofs.Putting.{puts-nothing, puts-byte, puts-next, puts-same}
+use Rattle.shown.proofs.Rooms.{room-byte}
 use Rattle.shown.proofs.line.write_word.Statement.{statement}
 use Rattle.shown.proofs.line.write_word.Tie as tie
 
@@ -38,7 +39,7 @@ loop-less c = search needs
 loop-again : tie.Need-loop-again Inv-loop μ-loop
 loop-again c =
     let l = c .before .before .loop in
-    (search needs, search needs, puts-next _ (l .i) (search needs) (l .inv .2) (puts-byte (lineOf (l .bytes) (l .next)) _ (search needs)))
+    (search needs, search needs, puts-next _ (l .i) (search needs) (l .inv .2) (puts-byte (lineOf (l .bytes) (l .next)) _ (room-byte _ (l .i) (c .before .before .before .pre) (search needs) (l .inv .2))))
 
 returns : tie.Need-returns Inv-loop μ-loop
 returns c = puts-same (take-all _ _ (c .loop-test .left)) (c .before .loop .inv .2)

@@ -1,9 +1,8 @@
 -- `number::write_decimal` meets its contract: the part of the digits' bytes that it writes is a law of Decimals.
-use mathlib.Core.Path.{ap}
-use native.Mathlib.Omega.{arith}
+use mathlib.Core.Path.{sym}
 use borrow.Author.Needs.{needs}
-use lib.ListN.{length}
 use Rattle.shown.proofs.Putting.{puts-same}
+use Rattle.shown.proofs.Rooms.{room-same}
 use Rattle.shown.proofs.Decimals.{digits-part}
 use Rattle.shown.proofs.number.write_decimal.Statement.{statement}
 use Rattle.shown.proofs.number.write_decimal.Tie as tie
@@ -23,7 +22,7 @@ part-write-word-end c = search needs
 write-word-requires : tie.Need-write-word-requires
 write-word-requires c κs =
     let d = c .before .before .before .before .digits-of in
-    omega (arith, ap length (digits-part (d .result .bytes) (d .result .from) _ (d .ensures .0) (d .ensures .2)))
+    room-same (sym (digits-part (d .result .bytes) (d .result .from) _ (d .ensures .0) (d .ensures .2))) (c .before .before .before .before .before .pre)
 
 returns : tie.Need-returns
 returns c =
