@@ -1,24 +1,19 @@
 -- What is packed can be read back: each part stands in its own bits, so no two answers are one number, and no line that is
 -- handed back answers with the number for a buffer that is too short.
 -- Relies on the packing's definitions; nothing relies on it but the reader of an answer.
-use mathlib.Core.Path.{_≡_, ap}
-use mathlib.Core.Bool.{Bool, true, false, _&&_}
+use mathlib.Core.Path.{_≡_}
 use mathlib.Core.List.{List}
-use mathlib.Core.Option.{none}
 use Prim.Native.Nat.{ℕ, suc, _/_, _%_, _≤_, _<_}
 use native.Mathlib.Omega.{arith}
-use lib.Dec.{eqb, leb}
 use lib.ListN.{length}
-use Rattle.model.specs.Layout.{boardLength}
-use Rattle.model.specs.Sound.{sound}
-use Rattle.model.specs.Calls.{Refusal, unless, stations, islands, shapeRefusal, boardRefusal, ran}
-use Rattle.model.specs.Show.{shownLine, show}
+use Rattle.model.specs.Calls.{ran}
+use Rattle.model.specs.Show.{show}
 use Rattle.model.specs.Sheet.{playLine}
 use Rattle.player.specs.declared.line.Played.{Played}
 use Rattle.player.specs.Played.{Plays}
-use Rattle.player.proofs.Laws.Playing.{refusal-of}
 use Rattle.packing.specs.Packing.{packed, packVerdict, packRun, packWord}
 use Rattle.capi.specs.Lines.{packShow, packPlayed}
+use Rattle.capi.proofs.Laws.Listed.{listed, listed-high}
 use Rattle.capi.proofs.Laws.Lines.{shown-fits, line-laid}
 
 -- a step's four parts; the code's kind and island, or flag, are bytes
@@ -55,28 +50,8 @@ module _ (s t : ℕ) (h : s ≤ 65536) where
 
 -- ---- a shown line's answer
 
-listed : (t : Bool) (k : ℕ) (later : Refusal) → k ≤ 17 → packVerdict later ≤ 17 → packVerdict (unless t k later) ≤ 17
-unfolding unless packVerdict
-listed true k later h l = l
-listed false k later h l = h
-
-board-listed : (b : List ℕ) (later : Refusal) → packVerdict later ≤ 17 → packVerdict (boardRefusal b later) ≤ 17
-unfolding boardRefusal shapeRefusal
-board-listed b later h =
-    listed (leb 8 (length b)) 7 _ (omega arith)
-    (listed (leb 1 (stations b) && leb (stations b) 16) 8 _ (omega arith)
-    (listed (leb 2 (islands b) && leb (islands b) 64) 9 _ (omega arith)
-    (listed (eqb (length b) (boardLength (stations b) (islands b))) 10 _ (omega arith)
-    (listed (sound (stations b) (islands b) b) 11 later (omega arith) h))))
-
 shown-listed : (b : List ℕ) → packVerdict (show b .refusal) ≤ 17
-unfolding show packVerdict
-shown-listed b =
-    omega (
-      arith,
-      ap packVerdict (refusal-of (boardRefusal b (unless (leb (length (shownLine b)) 512) 17 none)) (shownLine b)),
-      board-listed b (unless (leb (length (shownLine b)) 512) 17 none) (listed (leb (length (shownLine b)) 512) 17 none (omega arith) (omega arith)),
-    )
+shown-listed b = listed-high (show b .refusal) (listed b)
 
 pub shown-never-all-ones : (b : List ℕ) → packShow (show b) < 4294967295
 unfolding packShow

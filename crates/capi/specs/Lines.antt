@@ -3,6 +3,7 @@
 use Prim.Native.Nat.{ℕ, _+_, _*_, _-_}
 use mathlib.Core.Bool.{cond, _&&_}
 use mathlib.Core.List.{List, _++_}
+use mathlib.Core.Option.{none, some}
 use lib.Dec.{leb}
 use lib.ListN.{length, drop, replicate}
 use Rattle.model.specs.Show.{Shown}
@@ -12,6 +13,10 @@ use Rattle.packing.specs.Packing.{packVerdict}
 -- the 512 bytes of a line at the front of a buffer, and the rest as it was
 unfoldable pub handed : (line buffer : List ℕ) → List ℕ
 handed l d = l ++ drop 512 d
+
+-- "A refusal answers its number only and changes no byte": what a shown line leaves in the buffer
+unfoldable pub shownIn : Shown → (buffer : List ℕ) → List ℕ
+shownIn s d = elim (s .refusal) [ none ↦ handed (s .line) d | some k ↦ d ]
 
 -- "zeros after the line"
 unfoldable pub filled : List ℕ → List ℕ

@@ -4,7 +4,7 @@ ghost use mathlib.Core.Path.{_≡_};
 ghost use Rattle.model.specs.Show.{show};
 ghost use Rattle.model.specs.Forms.{formWord};
 ghost use Rattle.model.specs.Sheet.{playLine};
-ghost use Rattle.capi.specs.Lines.{inRoom, playable, handed, packShow, packPlayed, filled};
+ghost use Rattle.capi.specs.Lines.{inRoom, playable, handed, shownIn, packShow, packPlayed, filled};
 ghost use Rattle.packing.specs.Packing.{packWord};
 ghost use lib.ListN.{length};
 use packing::verdict_number;
@@ -17,16 +17,21 @@ const NOT_PLAYED: u64 = 0xFFFFFFFFFFFFFFFF;
 
 #[no_mangle]
 pub extern "C" fn lufanelis_show(board: &[u8], line: &mut [u8]) -> u32
-    ensures { λ r. ⌜ (r ≡ inRoom (now (line .entry)) (packShow (show (now (board .entry)))) 4294967295) × (now (line .exit) ≡ inRoom (now (line .entry)) (handed (show (now (board .entry)) .line) (now (line .entry))) (now (line .entry))) ⌝ }
+    ensures { λ r. ⌜ (r ≡ inRoom (now (line .entry)) (packShow (show (now (board .entry)))) 4294967295) × (now (line .exit) ≡ inRoom (now (line .entry)) (shownIn (show (now (board .entry))) (now (line .entry))) (now (line .entry))) ⌝ }
 {
     if line.len() < 512 {
         return NO_ROOM;
     }
     let shown = calls::show(board);
-    let bytes = shown.bytes;
     let verdict = shown.verdict;
+    let number = verdict_number(verdict);
+    // No refusal has number 0, and beside one the lent line stays as it was.
+    if 0 < number {
+        return number as u32;
+    }
+    let bytes = shown.bytes;
     bytes::copy(&bytes, line);
-    verdict_number(verdict) as u32 + shown.len as u32 * 65536
+    shown.len as u32 * 65536
 }
 
 #[no_mangle]

@@ -27,7 +27,8 @@ use Rattle.model.proofs.Calls.Refusals.{Shape, shape-of, some-none, call-case, 
 use Rattle.player.specs.declared.line.Played.{Played}
 use Rattle.player.specs.Played.{Plays}
 use Rattle.packing.specs.Packing.{packVerdict, packWord}
-use Rattle.capi.specs.Lines.{handed, filled, inRoom, playable, packShow, packPlayed}
+use Rattle.capi.specs.Lines.{handed, shownIn, filled, inRoom, playable, packShow, packPlayed}
+use Rattle.capi.proofs.Laws.Listed.{Listed, listed}
 
 -- ---- words
 
@@ -98,33 +99,67 @@ shown-fits b = go (boardRefusal b (unless (leb (length (shownLine b)) 512) 17 no
         (simp (length-append, length-replicate) (omega arith), h)
     go (some k) e = (length-replicate {A = ℕ} 512 0, omega arith)
 
-pub show-refused : (b d : List ℕ) → length d < 512
-    → (4294967295 ≡ inRoom d (packShow (show b)) 4294967295) × (d ≡ inRoom d (handed (show b .line) d) d)
-show-refused b d h = (no-room d _ _ h, no-room d _ _ h)
+-- the answer and the buffer that the contract gives
+abbrev Shows : (board buffer : List ℕ) → ℕ → List ℕ → Type 0
+Shows b d r e = (r ≡ inRoom d (packShow (show b)) 4294967295) × (e ≡ inRoom d (shownIn (show b) d) d)
+
+pub show-short : (b d : List ℕ) → length d < 512 → Shows b d 4294967295 d
+show-short b d h = (no-room d _ _ h, no-room d _ _ h)
+
+-- beside a refusal the number alone, and the buffer as it was
+module _ (s : Shown) (d : List ℕ) where
+  beside : (r : Refusal) → s .refusal ≡ r → 0 < packVerdict r → d ≡ shownIn s d
+  unfolding shownIn packVerdict
+  beside none e h = absurd (omega arith)
+  beside (some k) e h = rw e
+
+  fills : (r : Refusal) → s .refusal ≡ r → Listed r → packVerdict r ≤ 0 → handed (s .line) d ≡ shownIn s d
+  unfolding shownIn packVerdict Listed
+  fills none e g h = rw e
+  fills (some k) e g h = absurd (omega (arith, g .0))
+
+no-line : (r : Refusal) (l : List ℕ) → 0 < packVerdict (shownAs r l .refusal) → shownAs r l .len ≡ 0
+unfolding shownAs packVerdict
+no-line none l h = absurd (omega arith)
+no-line (some k) l h = refl
 
 module _ (b : List ℕ) (s : ShownLine) (told : shownTold s ≡ show b) where
   its-bytes : s .bytes ≡ show b .line
   unfolding shownTold
   its-bytes = ap (λ (q : Shown). q .line) told
 
+  its-verdict : verdict (s .verdict) ≡ show b .refusal
+  unfolding shownTold
+  its-verdict = ap (λ (q : Shown). q .refusal) told
+
+  its-len : s .len ≡ show b .len
+  unfolding shownTold
+  its-len = ap (λ (q : Shown). q .len) told
+
   its-length : length (s .bytes) ≡ 512
   its-length = ap length its-bytes ∙ shown-fits b .0
 
   pub len-fits : s .len ≤ 512
-  unfolding shownTold
-  len-fits = subst (λ (k : ℕ). k ≤ 512) (sym (ap (λ (q : Shown). q .len) told)) (shown-fits b .1)
+  len-fits = subst (λ (k : ℕ). k ≤ 512) (sym its-len) (shown-fits b .1)
 
   module _ (d : List ℕ) (h : 512 ≤ length d) where
     pub line-fits : length (s .bytes) ≤ length d
     line-fits = omega (arith, its-length)
 
-    pub show-given : (k n : ℕ) (e : List ℕ) → k ≡ packVerdict (verdict (s .verdict)) → n ≡ length (s .bytes) → e ≡ take n (s .bytes) ++ drop n d
-        → (k + s .len * 65536 ≡ inRoom d (packShow (show b)) 4294967295) × (e ≡ inRoom d (handed (show b .line) d) d)
-    unfolding packShow shownTold
-    show-given k n e p q c = (
-      ap (λ (x : ℕ). x + s .len * 65536) p ∙ ap packShow told ∙ room d _ _ h,
-      copied (s .bytes) d e n q its-length c ∙ ap (λ (l : List ℕ). handed l d) its-bytes ∙ room d _ _ h,
-    )
+    pub show-turned : (k : ℕ) → k ≡ packVerdict (verdict (s .verdict)) → 0 < k → Shows b d k d
+    unfolding packShow show
+    show-turned k p l =
+        let q : 0 < packVerdict (show b .refusal) = omega (arith, p, ap packVerdict its-verdict) in
+        (omega (arith, p, ap packVerdict its-verdict, no-line _ (shownLine b) q) ∙ room d _ _ h, beside (show b) d _ refl q ∙ room d _ _ h)
+
+    pub show-given : (k n : ℕ) (e : List ℕ) → k ≡ packVerdict (verdict (s .verdict)) → k ≤ 0 → n ≡ length (s .bytes) → e ≡ take n (s .bytes) ++ drop n d
+        → Shows b d (s .len * 65536) e
+    unfolding packShow
+    show-given k n e p l q c =
+        let z : packVerdict (show b .refusal) ≤ 0 = omega (arith, p, ap packVerdict its-verdict) in (
+          omega (arith, z, its-len) ∙ room d _ _ h,
+          copied (s .bytes) d e n q its-length c ∙ ap (λ (x : List ℕ). handed x d) its-bytes ∙ fills (show b) d _ refl (listed b) z ∙ room d _ _ h,
+        )
 
 -- ---- playing
 
