@@ -23,7 +23,7 @@ pub record Plain (v z : ℤ) : Type 0 where
 
 pub record Below (v z : ℤ) : Type 0 where
   pub cast : T (nonNeg z) × Fits w32 (natAbs z)
-  pub more : Fits w32 (natAbs z + 1)
+  pub small : natAbs z < 2147483648
   pub printed : signed v ≡ text "-" ++ decimal (natAbs z + 1)
 
 plain-from : (n : ℕ) (z : ℤ) → z ≡ pos n → n < 2147483648 → Plain (pos n) z
@@ -36,7 +36,7 @@ below-from n z e h =
     subst (Below (negsuc n)) (sym e)
     (record {
       cast = (tt, record { fits = omega arith });
-      more = record { fits = omega arith };
+      small = h;
       printed = ap (λ (m : ℕ). text "-" ++ decimal m) (sym (add-one n));
     })
 

@@ -15,7 +15,7 @@ use Rattle.shown.specs.declared.line.Line.{Line}
 use Rattle.shown.specs.Puts.{Puts, Room}
 use Rattle.shown.specs.Texts.{statusOf, standingBytes}
 use Rattle.shown.proofs.Putting.{puts-then}
-use Rattle.shown.proofs.Rooms.{Rooms, rooms, room-same}
+use Rattle.shown.proofs.Rooms.{Rooms, rooms}
 
 -- ---- the order of the pieces
 
@@ -105,8 +105,12 @@ module _ (f : Record) (w : List ℕ) (z : Figure) (e : status (recordValue f) �
   same : standingBytes w (f .island) z ≡ status (recordValue f)
   same = ap (standingBytes w (f .island)) l ∙ sym e
 
-  pub room-as : {line : Line} → Room line (status (recordValue f)) → Room line (standingBytes w (f .island) z)
-  room-as h = room-same (sym same) h
+  -- any word of its length has its room
+  pub room-as : {line : Line} (u : List ℕ) → length u ≡ length w → Room line (status (recordValue f)) → Room line (standingBytes u (f .island) z)
+  room-as u n h = record {
+    size = h .size;
+    fits = omega (arith, h .fits, n, ap length same, length-standing u (f .island) z, length-standing w (f .island) z);
+  }
 
   pub puts-as : {line r : Line} → Puts line (standingBytes w (f .island) z) r → Puts line (status (recordValue f)) r
   puts-as {line} {r} p = subst (λ (b : List ℕ). Puts line b r) same p

@@ -1,5 +1,6 @@
 -- `number::write_figure` meets its contract: each way is a law of Signs.
 use mathlib.Core.Path.{sym}
+use native.Mathlib.Omega.{arith}
 use Rattle.model.specs.Show.{text, textFrom, decimal}
 use Rattle.shown.proofs.Putting.{puts-then, puts-same}
 use Rattle.shown.proofs.Rooms.{room-same, room-first, room-next}
@@ -15,7 +16,7 @@ cast-write-decimal : tie.Need-cast-write-decimal
 cast-write-decimal c = below (c .before .before .before .before .args .v) (c .before .before .before .before .fits .v) (c .before .before .before .if1 .taken) .cast
 
 add-write-decimal : tie.Need-add-write-decimal
-add-write-decimal c = below (c .before .before .before .before .args .v) (c .before .before .before .before .fits .v) (c .before .before .before .if1 .taken) .more
+add-write-decimal c = record { fits = omega (arith, below (c .before .before .before .before .args .v) (c .before .before .before .before .fits .v) (c .before .before .before .if1 .taken) .small) }
 
 write-decimal-requires : tie.Need-write-decimal-requires
 unfolding text textFrom

@@ -1,5 +1,6 @@
 -- `status::write_phase` meets its contract: at each phase the word is that of a law of Statuses.
 use mathlib.Core.Path.{refl, sym}
+use native.Mathlib.Omega.{arith}
 use Rattle.model.specs.Show.{text, textFrom}
 use Rattle.model.proofs.Basics.Numbers.{landed}
 use Rattle.shown.proofs.Putting.{puts-same}
@@ -25,12 +26,12 @@ slice-aggregate-write-standing c = refl
 write-standing-requires : tie.Need-write-standing-requires
 unfolding text textFrom
 write-standing-requires c κs =
-    room-as (c .before .before .before .before .before .before .before .args .station) _ _ (going-text _ (c .before .before .before .before .before .if1 .left) (c .before .before .before .if2 .taken)) (landed _ (c .struct-told .given .1 .1 .1 .1 .1 .1 .1 .0 .1)) (c .before .before .before .before .before .before .before .pre)
+    room-as (c .before .before .before .before .before .before .before .args .station) _ _ (going-text (c .before .before .before .before .before .before .before .args .station) (c .before .before .before .before .before .if1 .left) (omega (arith, c .before .before .before .if2 .taken))) (landed _ (c .struct-told .given .1 .1 .1 .1 .1 .1 .1 .0 .1)) _ refl (c .before .before .before .before .before .before .before .pre)
 
 returns-2 : tie.Need-returns-2
 unfolding text textFrom
 returns-2 c =
-    puts-as (c .before .before .before .before .before .before .before .before .args .station) _ _ (going-text _ (c .before .before .before .before .before .before .if1 .left) (c .before .before .before .before .if2 .taken)) (landed _ (c .before .struct-told .given .1 .1 .1 .1 .1 .1 .1 .0 .1)) (c .write-standing .ensures)
+    puts-as (c .before .before .before .before .before .before .before .before .args .station) _ _ (going-text (c .before .before .before .before .before .before .before .before .args .station) (c .before .before .before .before .before .before .if1 .left) (omega (arith, c .before .before .before .before .if2 .taken))) (landed _ (c .before .struct-told .given .1 .1 .1 .1 .1 .1 .1 .0 .1)) (c .write-standing .ensures)
 
 slice-aggregate-write-standing-2 : tie.Need-slice-aggregate-write-standing-2
 slice-aggregate-write-standing-2 c = refl
@@ -38,7 +39,7 @@ slice-aggregate-write-standing-2 c = refl
 write-standing-requires-2 : tie.Need-write-standing-requires-2
 unfolding text textFrom
 write-standing-requires-2 c κs =
-    room-as (c .before .before .before .before .before .before .before .before .before .args .station) _ _ (decided-text _ (c .before .before .before .if3 .taken)) (landed _ (c .struct-told2 .given .1 .1 .1 .1 .1 .1 .1 .0 .1)) (c .before .before .before .before .before .before .before .before .before .pre)
+    room-as (c .before .before .before .before .before .before .before .before .before .args .station) _ _ (decided-text (c .before .before .before .before .before .before .before .before .before .args .station) (c .before .before .before .if3 .taken)) (landed _ (c .struct-told2 .given .1 .1 .1 .1 .1 .1 .1 .0 .1)) _ refl (c .before .before .before .before .before .before .before .before .before .pre)
 
 returns-3 : tie.Need-returns-3
 unfolding text textFrom
@@ -51,12 +52,12 @@ slice-aggregate-write-standing-3 c = refl
 write-standing-requires-3 : tie.Need-write-standing-requires-3
 unfolding text textFrom
 write-standing-requires-3 c κs =
-    room-as (c .before .before .before .before .before .before .before .before .before .args .station) _ _ (spent-text _ (c .before .before .before .before .before .if2 .left) (c .before .before .before .if3 .left)) (landed _ (c .struct-told3 .given .1 .1 .1 .1 .1 .1 .1 .0 .1)) (c .before .before .before .before .before .before .before .before .before .pre)
+    room-as (c .before .before .before .before .before .before .before .before .before .args .station) _ _ (spent-text (c .before .before .before .before .before .before .before .before .before .args .station) (omega (arith, c .before .before .before .before .before .if2 .left)) (c .before .before .before .if3 .left)) (landed _ (c .struct-told3 .given .1 .1 .1 .1 .1 .1 .1 .0 .1)) _ refl (c .before .before .before .before .before .before .before .before .before .pre)
 
 returns-4 : tie.Need-returns-4
 unfolding text textFrom
 returns-4 c =
-    puts-as (c .before .before .before .before .before .before .before .before .before .before .args .station) _ _ (spent-text _ (c .before .before .before .before .before .before .if2 .left) (c .before .before .before .before .if3 .left)) (landed _ (c .before .struct-told3 .given .1 .1 .1 .1 .1 .1 .1 .0 .1)) (c .write-standing3 .ensures)
+    puts-as (c .before .before .before .before .before .before .before .before .before .before .args .station) _ _ (spent-text (c .before .before .before .before .before .before .before .before .before .before .args .station) (omega (arith, c .before .before .before .before .before .before .if2 .left)) (c .before .before .before .before .if3 .left)) (landed _ (c .before .struct-told3 .given .1 .1 .1 .1 .1 .1 .1 .0 .1)) (c .write-standing3 .ensures)
 
 pub write-phase-spec : {M : Type 1} → statement M
 write-phase-spec =
