@@ -2,3 +2,4 @@
 pub mod Laying
 pub mod Proposing
 pub mod Showing
+pub mod Telling

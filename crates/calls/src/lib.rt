@@ -1,9 +1,10 @@
 // The public calls over a lent board: refusals in checking order, then the work. They are those that are named here.
-// Relies on the test of a board, the codec, the step and the writer of lines; the C interface and the player of run sheets
-// rely on it.
+// Relies on the test of a board, the codec, the step, and how a station stands, as a value or in a line; the C interface and
+// the player of run sheets rely on it.
 mod laying;
 mod proposing;
 mod showing;
+mod telling;
 
 pub use laying::lay;
 pub use proposing::propose;
@@ -11,3 +12,4 @@ pub use showing::show;
 pub use soundness::board::check_board;
 pub use stepping::running::run;
 pub use stepping::single::step;
+pub use telling::standing;

@@ -17,6 +17,10 @@ use Rattle.model.specs.Told.{verdict}
 use Rattle.model.proofs.Calls.Refusals.{board-of, board-passes, board-first, OnBoard, station-passes, station-12-low, station-12-high}
 use Rattle.stepping.proofs.Laws.Checking.{turned}
 
+-- a sound board passes its own refusals, whatever comes after them
+pub past-board : (b : List ℕ) → boardRefusal b none ≡ none → (later : Refusal) → boardRefusal b later ≡ later
+past-board b sound = board-passes b (board-of b none sound .0)
+
 abbrev done : (i : ℕ) (v : Figure) (b : List ℕ) → After Refusal
 done i v b = record { answer = none; bytes = putStation (stations b) (islands b) (i - 1) (proposed v) b }
 
@@ -34,15 +38,12 @@ module _ (i : ℕ) (v : Figure) (b : List ℕ) where
   board-refuses w k e h = refuses k (board-first b _ k (turned b w k e h))
 
   module _ (sound : boardRefusal b none ≡ none) where
-    past-board : (later : Refusal) → boardRefusal b later ≡ later
-    past-board later = board-passes b (board-of b none sound .0) later
-
     pub twelve-low : i < 1 → (verdict (Refused 12) ≡ propose i v b .answer) × (b ≡ propose i v b .bytes)
-    twelve-low h = refuses 12 (past-board _ ∙ station-12-low i b _ h)
+    twelve-low h = refuses 12 (past-board b sound _ ∙ station-12-low i b _ h)
 
     pub twelve-high : getD b 0 0 < i → (verdict (Refused 12) ≡ propose i v b .answer) × (b ≡ propose i v b .bytes)
     unfolding stations
-    twelve-high h = refuses 12 (past-board _ ∙ station-12-high i b _ h)
+    twelve-high h = refuses 12 (past-board b sound _ ∙ station-12-high i b _ h)
 
     module _ (low : 1 ≤ i) (high : i ≤ getD b 0 0) (f : Record)
         (e : f ≡ readRecord (part (recordAt (getD b 0 0) (getD b 1 0) (i - 1)) 24 b)) where
@@ -55,7 +56,7 @@ module _ (i : ℕ) (v : Figure) (b : List ℕ) where
       on-board = record { low = low; high = high }
 
       passes : boardRefusal b (stationRefusal i b (notIdle (stationAt i b))) ≡ notIdle (recordValue f)
-      passes = past-board _ ∙ station-passes i b on-board _ ∙ ap notIdle stands
+      passes = past-board b sound _ ∙ station-passes i b on-board _ ∙ ap notIdle stands
 
       -- any phase but 0 is that of a station that has proposed
       busy : (k : ℕ) → (k ≡ 0 → ⊥) → notIdle (ofPhase k f) ≡ some 13

@@ -1,0 +1,34 @@
+// How a station stands, by the phase of its record.
+// Relies on the model's declared types alone; the status of a shown line and the call that tells one station's standing rely
+// on it.
+use model::Record;
+use model::Standing;
+ghost use mathlib.Core.Path.{_≡_};
+ghost use Rattle.model.specs.Layout.{recordValue};
+ghost use Rattle.model.specs.Standing.{standingOf};
+ghost use Rattle.model.specs.Told.{standingTold};
+
+// "phases 1 to 6 are going"
+pub fn standing_of(station: Record) -> Standing
+    ensures { λ r. ⌜ standingTold r ≡ standingOf (recordValue station) ⌝ }
+{
+    if station.phase == 0 {
+        return Standing::Idle;
+    }
+    if station.phase < 7 {
+        return Standing::Going {
+            island: station.island,
+            figure: station.carried,
+        };
+    }
+    if station.phase == 7 {
+        return Standing::Decided {
+            island: station.island,
+            figure: station.carried,
+        };
+    }
+    Standing::Spent {
+        island: station.island,
+        figure: station.carried,
+    }
+}
