@@ -1,2 +1,3 @@
--- Laws over plain variables.
+-- Laws over plain variables, one subject a file.
 pub mod Packing
+pub mod Standings

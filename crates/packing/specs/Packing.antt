@@ -9,6 +9,7 @@ use Rattle.model.specs.declared.RunVerdict.the-variants.{Ran, Refused}
 use Rattle.model.specs.Figure.{Figure}
 use Rattle.model.specs.Listing.{Answer, wrote, read, went, marked, adopted, decided, spent, refused}
 use Rattle.model.specs.Calls.{Refusal, RunAnswer, ran, notRun}
+use Rattle.model.specs.Standing.{stands-idle, stands-going, stands-decided, stands-spent, StandingAnswer, stands, notTold}
 
 -- a figure's 32 bits of two's complement, as a number
 unfoldable pub bits : Figure → ℕ
@@ -42,6 +43,18 @@ Few (Refused k) = Unit {0}
 unfoldable pub packRun : RunAnswer → ℕ
 packRun (ran s t) = s * 256 + t * 4294967296
 packRun (notRun k) = k
+
+-- bits 0 to 7 the refusal's number, 8 to 11 how the station stands, 12 to 19 the island, 32 to 63 the figure; 20 to 31 are
+-- kept free
+unfoldable pub packedStanding : (number kind island figure : ℕ) → ℕ
+packedStanding number kind island figure = number + kind * 256 + island * 4096 + figure * 4294967296
+
+unfoldable pub packStanding : StandingAnswer → ℕ
+packStanding (stands stands-idle) = packedStanding 0 1 0 0
+packStanding (stands (stands-going c v)) = packedStanding 0 2 c (bits v)
+packStanding (stands (stands-decided c v)) = packedStanding 0 3 c (bits v)
+packStanding (stands (stands-spent c v)) = packedStanding 0 4 c (bits v)
+packStanding (notTold k) = packedStanding k 0 0 0
 
 -- bits 0 to 31 where a word starts in its line, behind the bracket, 32 to 63 its length; 0 for no word
 unfoldable pub packWord : (len : ℕ) → ℕ

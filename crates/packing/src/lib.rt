@@ -2,10 +2,13 @@
 // Relies on a figure's bits; the calls for C rely on it.
 ghost use mathlib.Core.Path.{_≡_};
 ghost use Prim.Native.Nat.{_≤_};
-ghost use Rattle.model.specs.Told.{told, verdict, runTold};
-ghost use Rattle.packing.specs.Packing.{bits, packed, packVerdict, packStep, packRun, packWord, Few};
+ghost use Rattle.model.specs.Standing.{stands};
+ghost use Rattle.model.specs.Told.{told, verdict, runTold, standingTold, standingAnswered};
+ghost use Rattle.packing.specs.Packing.{bits, packed, packedStanding, packVerdict, packStep, packRun, packStanding, packWord, Few};
 use figures::bits_of;
 use model::RunVerdict;
+use model::Standing;
+use model::StandingAnswer;
 use model::StepAnswer;
 use model::Verdict;
 
@@ -47,6 +50,33 @@ pub fn run_number(answer: RunVerdict) -> u64
     match answer {
         RunVerdict::Refused { number } => number as u64,
         RunVerdict::Ran { taken, passed } => taken as u64 * 256 + passed as u64 * 4294967296,
+    }
+}
+
+// A station that has proposed, with its island and the figure that it carries.
+fn placed(kind: u8, island: u8, figure: i32) -> u64
+    ensures { λ r. ⌜ r ≡ packedStanding 0 kind island (bits figure) ⌝ }
+{
+    kind as u64 * 256 + island as u64 * 4096 + bits_of(figure) as u64 * 4294967296
+}
+
+fn stands_number(standing: Standing) -> u64
+    ensures { λ r. ⌜ r ≡ packStanding (stands (standingTold standing)) ⌝ }
+{
+    match standing {
+        Standing::Idle => 256,
+        Standing::Going { island, figure } => placed(2, island, figure),
+        Standing::Decided { island, figure } => placed(3, island, figure),
+        Standing::Spent { island, figure } => placed(4, island, figure),
+    }
+}
+
+pub fn standing_number(answer: StandingAnswer) -> u64
+    ensures { λ r. ⌜ r ≡ packStanding (standingAnswered answer) ⌝ }
+{
+    match answer {
+        StandingAnswer::Refused { number } => number as u64,
+        StandingAnswer::Stands { standing } => stands_number(standing),
     }
 }
 
