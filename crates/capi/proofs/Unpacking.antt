@@ -11,7 +11,7 @@ use Rattle.model.specs.Show.{show}
 use Rattle.model.specs.Sheet.{playLine}
 use Rattle.player.specs.declared.line.Played.{Played}
 use Rattle.player.specs.Played.{Plays}
-use Rattle.packing.specs.Packing.{packed, packVerdict, packRun, packWord}
+use Rattle.packing.specs.Packing.{packed, packedStanding, packVerdict, packRun, packWord}
 use Rattle.capi.specs.Lines.{packShow, packPlayed}
 use Rattle.capi.proofs.Laws.Listed.{listed, listed-high}
 use Rattle.capi.proofs.Laws.Lines.{shown-fits, line-laid}
@@ -47,6 +47,28 @@ module _ (s t : ℕ) (h : s ≤ 65536) where
   pub the-passed : packRun (ran s t) / 4294967296 ≡ t
   unfolding packRun
   the-passed = omega arith
+
+-- how a station stands; the code's island is a byte
+module _ (number kind island figure : ℕ) (n : number < 256) (k : kind < 16) (i : island < 256) where
+  pub standing-number : packedStanding number kind island figure % 256 ≡ number
+  unfolding packedStanding
+  standing-number = omega arith
+
+  pub standing-kind : packedStanding number kind island figure / 256 % 16 ≡ kind
+  unfolding packedStanding
+  standing-kind = omega arith
+
+  pub standing-island : packedStanding number kind island figure / 4096 % 256 ≡ island
+  unfolding packedStanding
+  standing-island = omega arith
+
+  pub standing-free : packedStanding number kind island figure / 1048576 % 4096 ≡ 0
+  unfolding packedStanding
+  standing-free = omega arith
+
+  pub standing-figure : packedStanding number kind island figure / 4294967296 ≡ figure
+  unfolding packedStanding
+  standing-figure = omega arith
 
 -- ---- a shown line's answer
 

@@ -3,8 +3,10 @@
 ghost use mathlib.Core.Path.{_≡_};
 ghost use mathlib.Core.Option.{none};
 ghost use Rattle.model.specs.Calls.{boardRefusal, lay, propose, step, run};
-ghost use Rattle.packing.specs.Packing.{packVerdict, packStep, packRun};
+ghost use Rattle.model.specs.Standing.{standing};
+ghost use Rattle.packing.specs.Packing.{packVerdict, packStep, packRun, packStanding};
 use packing::run_number;
+use packing::standing_number;
 use packing::step_number;
 use packing::verdict_number;
 
@@ -41,4 +43,11 @@ pub extern "C" fn lufanelis_run(board: &mut [u8], stations: &[u8]) -> u64
     ensures { λ r. ⌜ (r ≡ packRun (run (now (stations .entry)) (now (board .entry)) .answer)) × (now (board .exit) ≡ run (now (stations .entry)) (now (board .entry)) .bytes) ⌝ }
 {
     run_number(calls::run(board, stations))
+}
+
+#[no_mangle]
+pub extern "C" fn lufanelis_standing(board: &[u8], station: u8) -> u64
+    ensures { λ r. ⌜ r ≡ packStanding (standing station (now (board .entry))) ⌝ }
+{
+    standing_number(calls::standing(board, station))
 }
