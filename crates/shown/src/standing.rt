@@ -12,23 +12,16 @@ ghost use Rattle.model.specs.Told.{standingTold};
 pub fn standing_of(station: Record) -> Standing
     ensures { λ r. ⌜ standingTold r ≡ standingOf (recordValue station) ⌝ }
 {
+    let island = station.island;
+    let figure = station.carried;
     if station.phase == 0 {
         return Standing::Idle;
     }
     if station.phase < 7 {
-        return Standing::Going {
-            island: station.island,
-            figure: station.carried,
-        };
+        return Standing::Going { island, figure };
     }
     if station.phase == 7 {
-        return Standing::Decided {
-            island: station.island,
-            figure: station.carried,
-        };
+        return Standing::Decided { island, figure };
     }
-    Standing::Spent {
-        island: station.island,
-        figure: station.carried,
-    }
+    Standing::Spent { island, figure }
 }
