@@ -1,15 +1,18 @@
--- A station's status piece by piece: its bytes by phase, the order in which the code puts them, and their number.
+-- A station's status piece by piece: its bytes by how it stands, the order in which the code puts them, and their number.
 -- Relies on Putting and the model's `status`; the proofs of src/status.rt rely on it.
-use mathlib.Core.Path.{_≡_, refl, sym, ap, _∙_, subst}
+use mathlib.Core.Path.{_≡_, sym, ap, _∙_, subst}
 use mathlib.Core.List.{List}
-use Prim.Native.Nat.{ℕ, zero, suc, _+_, _≤_, _<_}
+use Prim.Native.Nat.{ℕ, _+_}
 use native.Mathlib.Omega.{arith}
 use lib.ListN.{length, length-append}
 use Rattle.model.specs.declared.Record.{Record}
+use Rattle.model.specs.declared.Standing.{Standing}
+use Rattle.model.specs.declared.Standing.the-variants.{Idle, Going, Decided, Spent}
 use Rattle.model.specs.Figure.{Figure}
 use Rattle.model.specs.Listing.{Station}
-use Rattle.model.specs.Layout.{recordValue, ofPhase, writingOf, readingOf}
+use Rattle.model.specs.Layout.{recordValue}
 use Rattle.model.specs.Standing.{standingOf}
+use Rattle.model.specs.Told.{standingTold}
 use Rattle.model.specs.Show.{text, textFrom, decimal, signed, worded, standingText, status}
 use Rattle.shown.specs.declared.line.Line.{Line}
 use Rattle.shown.specs.Puts.{Puts, Room}
@@ -46,71 +49,40 @@ pub puts-status : {line a b d e r : Line} (i : ℕ) (s : Station Figure) → Put
 unfolding statusOf
 puts-status i s p q t u w = puts-then (puts-then (puts-then (puts-then p q) t) u) w
 
--- ---- the words by phase
+-- ---- the words by how the station stands, s as the code told it
 
-idle-at : (f : Record) → status (ofPhase 0 f) ≡ text "idle"
-unfolding ofPhase status standingText standingOf
-idle-at f = refl
+module _ (f : Record) (s : Standing) (told : standingTold s ≡ standingOf (recordValue f)) where
+  as-told : (t : Standing) → s ≡ t → status (recordValue f) ≡ standingText (standingTold t)
+  unfolding status
+  as-told t e = ap standingText (sym told ∙ ap standingTold e)
 
-going-at : (p : ℕ) (f : Record) → (p ≡ 0 → ⊥) → p < 7 → status (ofPhase p f) ≡ worded "going" (f .island) (f .carried)
-unfolding ofPhase writingOf readingOf status standingText standingOf
-going-at zero f n h = absurd (n refl)
-going-at (suc zero) f n h = refl
-going-at (suc (suc zero)) f n h = refl
-going-at (suc (suc (suc zero))) f n h = refl
-going-at (suc (suc (suc (suc zero)))) f n h = refl
-going-at (suc (suc (suc (suc (suc zero))))) f n h = refl
-going-at (suc (suc (suc (suc (suc (suc zero)))))) f n h = refl
-going-at (suc (suc (suc (suc (suc (suc (suc p))))))) f n h = absurd (omega arith)
+  pub idle-text : s ≡ Idle → status (recordValue f) ≡ text "idle"
+  unfolding standingTold standingText
+  idle-text e = as-told Idle e
 
-decided-at : (f : Record) → status (ofPhase 7 f) ≡ worded "decided" (f .island) (f .carried)
-unfolding ofPhase status standingText standingOf
-decided-at f = refl
+  pub going-text : (c : ℕ) (v : Figure) → s ≡ Going c v → status (recordValue f) ≡ standingBytes (text "going") c v
+  unfolding standingTold standingText worded standingBytes
+  going-text c v e = as-told (Going c v) e
 
-spent-at : (p : ℕ) (f : Record) → 7 ≤ p → (p ≡ 7 → ⊥) → status (ofPhase p f) ≡ worded "spent" (f .island) (f .carried)
-unfolding ofPhase status standingText standingOf
-spent-at zero f h n = absurd (omega arith)
-spent-at (suc zero) f h n = absurd (omega arith)
-spent-at (suc (suc zero)) f h n = absurd (omega arith)
-spent-at (suc (suc (suc zero))) f h n = absurd (omega arith)
-spent-at (suc (suc (suc (suc zero)))) f h n = absurd (omega arith)
-spent-at (suc (suc (suc (suc (suc zero))))) f h n = absurd (omega arith)
-spent-at (suc (suc (suc (suc (suc (suc zero)))))) f h n = absurd (omega arith)
-spent-at (suc (suc (suc (suc (suc (suc (suc zero))))))) f h n = absurd (n refl)
-spent-at (suc (suc (suc (suc (suc (suc (suc (suc p)))))))) f h n = refl
+  pub decided-text : (c : ℕ) (v : Figure) → s ≡ Decided c v → status (recordValue f) ≡ standingBytes (text "decided") c v
+  unfolding standingTold standingText worded standingBytes
+  decided-text c v e = as-told (Decided c v) e
 
--- the same of a record
-module _ (f : Record) where
-  pub idle-text : f .phase ≡ 0 → status (recordValue f) ≡ text "idle"
-  unfolding recordValue
-  idle-text e = ap (λ (p : ℕ). status (ofPhase p f)) e ∙ idle-at f
-
-  pub going-text : (f .phase ≡ 0 → ⊥) → f .phase < 7
-      → status (recordValue f) ≡ standingBytes (text "going") (f .island) (f .carried)
-  unfolding recordValue worded standingBytes
-  going-text n h = going-at (f .phase) f n h
-
-  pub decided-text : f .phase ≡ 7
-      → status (recordValue f) ≡ standingBytes (text "decided") (f .island) (f .carried)
-  unfolding recordValue worded standingBytes
-  decided-text e = ap (λ (p : ℕ). status (ofPhase p f)) e ∙ decided-at f
-
-  pub spent-text : 7 ≤ f .phase → (f .phase ≡ 7 → ⊥)
-      → status (recordValue f) ≡ standingBytes (text "spent") (f .island) (f .carried)
-  unfolding recordValue worded standingBytes
-  spent-text h n = spent-at (f .phase) f h n
+  pub spent-text : (c : ℕ) (v : Figure) → s ≡ Spent c v → status (recordValue f) ≡ standingBytes (text "spent") c v
+  unfolding standingTold standingText worded standingBytes
+  spent-text c v e = as-told (Spent c v) e
 
 -- a status that is put as a word with the island and the figure z, which the code passed on
-module _ (f : Record) (w : List ℕ) (z : Figure) (e : status (recordValue f) ≡ standingBytes w (f .island) (f .carried)) (l : z ≡ f .carried) where
-  same : standingBytes w (f .island) z ≡ status (recordValue f)
-  same = ap (standingBytes w (f .island)) l ∙ sym e
+module _ (s : Station Figure) (w : List ℕ) (c : ℕ) (v z : Figure) (e : status s ≡ standingBytes w c v) (l : z ≡ v) where
+  same : standingBytes w c z ≡ status s
+  same = ap (standingBytes w c) l ∙ sym e
 
   -- any word of its length has its room
-  pub room-as : {line : Line} (u : List ℕ) → length u ≡ length w → Room line (status (recordValue f)) → Room line (standingBytes u (f .island) z)
+  pub room-as : {line : Line} (u : List ℕ) → length u ≡ length w → Room line (status s) → Room line (standingBytes u c z)
   room-as u n h = record {
     size = h .size;
-    fits = omega (arith, h .fits, n, ap length same, length-standing u (f .island) z, length-standing w (f .island) z);
+    fits = omega (arith, h .fits, n, ap length same, length-standing u c z, length-standing w c z);
   }
 
-  pub puts-as : {line r : Line} → Puts line (standingBytes w (f .island) z) r → Puts line (status (recordValue f)) r
+  pub puts-as : {line r : Line} → Puts line (standingBytes w c z) r → Puts line (status s) r
   puts-as {line} {r} p = subst (λ (b : List ℕ). Puts line b r) same p

@@ -1,6 +1,6 @@
 // The texts of the line that `show` hands back: its opening word, and a station's status with its number, word, island and
 // figure.
-// Relies on the line and on numbers; the call that shows a board relies on it.
+// Relies on the line, on numbers and on how a station stands; the call that shows a board relies on it.
 use crate::line::Line;
 use crate::line::empty;
 use crate::line::put_word;
@@ -8,7 +8,9 @@ use crate::line::write_byte;
 use crate::line::write_word;
 use crate::number::write_decimal;
 use crate::number::write_figure;
+use crate::standing::standing_of;
 use model::Record;
+use model::Standing;
 ghost use Rattle.model.specs.Layout.{recordValue};
 ghost use Rattle.model.specs.Show.{status, text};
 ghost use Rattle.shown.specs.Puts.{Holds, Puts, Room, lineOf};
@@ -36,16 +38,19 @@ fn write_phase(bytes: &mut [u8; 512], at: usize, station: Record) -> usize
     requires { ⌜ Room (lineOf (now bytes) at) (status (recordValue station)) ⌝ }
     ensures { λ r. ⌜ Puts (lineOf (now (bytes .entry)) at) (status (recordValue station)) (lineOf (now (bytes .exit)) r) ⌝ }
 {
-    if station.phase == 0 {
-        return write_word(bytes, at, b"idle");
+    let stands = standing_of(station);
+    match stands {
+        Standing::Idle => write_word(bytes, at, b"idle"),
+        Standing::Going { island, figure } => write_standing(bytes, at, b"going", island, figure),
+        Standing::Decided { island, figure } => write_standing(
+            bytes,
+            at,
+            b"decided",
+            island,
+            figure,
+        ),
+        Standing::Spent { island, figure } => write_standing(bytes, at, b"spent", island, figure),
     }
-    if station.phase < 7 {
-        return write_standing(bytes, at, b"going", station.island, station.carried);
-    }
-    if station.phase == 7 {
-        return write_standing(bytes, at, b"decided", station.island, station.carried);
-    }
-    write_standing(bytes, at, b"spent", station.island, station.carried)
 }
 
 fn write_standing(bytes: &mut [u8; 512], at: usize, word: &[u8], island: u8, figure: i32) -> usize

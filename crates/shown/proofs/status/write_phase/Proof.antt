@@ -1,77 +1,91 @@
--- `status::write_phase` meets its contract: at each phase the word is that of a law of Statuses.
+-- `status::write_phase` meets its contract: as the station stands, the text is that of a law of Statuses.
 use mathlib.Core.Path.{refl, sym}
-use native.Mathlib.Omega.{arith}
+use borrow.Author.Needs.{needs}
+use mir.Facts.{toZ-ofZ}
 use Rattle.model.specs.Show.{text, textFrom}
-use Rattle.model.proofs.Basics.Numbers.{landed}
 use Rattle.shown.proofs.Putting.{puts-same}
 use Rattle.shown.proofs.Rooms.{room-same}
 use Rattle.shown.proofs.Statuses.{idle-text, going-text, decided-text, spent-text, room-as, puts-as}
 use Rattle.shown.proofs.status.write_phase.Statement.{statement}
 use Rattle.shown.proofs.status.write_phase.Tie as tie
 
+standing-of-requires : tie.Need-standing-of-requires
+standing-of-requires c κs = search needs
+
+enum-told : tie.Need-enum-told
+enum-told c = search needs
+
 slice-aggregate-write-word : tie.Need-slice-aggregate-write-word
-slice-aggregate-write-word c = refl
+slice-aggregate-write-word c = search needs
 
 write-word-requires : tie.Need-write-word-requires
 unfolding text textFrom
-write-word-requires c κs = room-same (idle-text (c .before .before .before .before .args .station) (c .before .before .if1 .taken)) (c .before .before .before .before .pre)
+write-word-requires c κs = room-same (idle-text (c .before .before .before .before .before .args .station) _ (c .before .before .before .before .standing-of .ensures) (c .before .before .enum-told .given .1)) (c .before .before .before .before .before .pre)
 
-returns : tie.Need-returns
-unfolding text textFrom
-returns c = puts-same (sym (idle-text (c .before .before .before .before .before .args .station) (c .before .before .before .if1 .taken))) (c .write-word .ensures)
+enum-known-stands : tie.Need-enum-known-stands
+enum-known-stands c = search needs
 
 slice-aggregate-write-standing : tie.Need-slice-aggregate-write-standing
-slice-aggregate-write-standing c = refl
+slice-aggregate-write-standing c = search needs
 
 write-standing-requires : tie.Need-write-standing-requires
 unfolding text textFrom
-write-standing-requires c κs =
-    room-as (c .before .before .before .before .before .before .before .args .station) _ _ (going-text (c .before .before .before .before .before .before .before .args .station) (c .before .before .before .before .before .if1 .left) (omega (arith, c .before .before .before .if2 .taken))) (landed _ (c .struct-told .given .1 .1 .1 .1 .1 .1 .1 .0 .1)) _ refl (c .before .before .before .before .before .before .before .pre)
+write-standing-requires c κs = room-as _ _ _ _ _ (going-text (c .before .before .before .before .before .before .args .station) _ (c .before .before .before .before .before .standing-of .ensures) _ _ (c .before .before .before .stands .given .1)) (toZ-ofZ (search needs)) _ refl (c .before .before .before .before .before .before .pre)
 
-returns-2 : tie.Need-returns-2
-unfolding text textFrom
-returns-2 c =
-    puts-as (c .before .before .before .before .before .before .before .before .args .station) _ _ (going-text (c .before .before .before .before .before .before .before .before .args .station) (c .before .before .before .before .before .before .if1 .left) (omega (arith, c .before .before .before .before .if2 .taken))) (landed _ (c .before .struct-told .given .1 .1 .1 .1 .1 .1 .1 .0 .1)) (c .write-standing .ensures)
+enum-known-stands-2 : tie.Need-enum-known-stands-2
+enum-known-stands-2 c = search needs
 
 slice-aggregate-write-standing-2 : tie.Need-slice-aggregate-write-standing-2
-slice-aggregate-write-standing-2 c = refl
+slice-aggregate-write-standing-2 c = search needs
 
 write-standing-requires-2 : tie.Need-write-standing-requires-2
 unfolding text textFrom
-write-standing-requires-2 c κs =
-    room-as (c .before .before .before .before .before .before .before .before .before .args .station) _ _ (decided-text (c .before .before .before .before .before .before .before .before .before .args .station) (c .before .before .before .if3 .taken)) (landed _ (c .struct-told2 .given .1 .1 .1 .1 .1 .1 .1 .0 .1)) _ refl (c .before .before .before .before .before .before .before .before .before .pre)
+write-standing-requires-2 c κs = room-as _ _ _ _ _ (decided-text (c .before .before .before .before .before .before .args .station) _ (c .before .before .before .before .before .standing-of .ensures) _ _ (c .before .before .before .stands2 .given .1)) (toZ-ofZ (search needs)) _ refl (c .before .before .before .before .before .before .pre)
 
-returns-3 : tie.Need-returns-3
-unfolding text textFrom
-returns-3 c =
-    puts-as (c .before .before .before .before .before .before .before .before .before .before .args .station) _ _ (decided-text _ (c .before .before .before .before .if3 .taken)) (landed _ (c .before .struct-told2 .given .1 .1 .1 .1 .1 .1 .1 .0 .1)) (c .write-standing2 .ensures)
+enum-known-stands-3 : tie.Need-enum-known-stands-3
+enum-known-stands-3 c = search needs
 
 slice-aggregate-write-standing-3 : tie.Need-slice-aggregate-write-standing-3
-slice-aggregate-write-standing-3 c = refl
+slice-aggregate-write-standing-3 c = search needs
 
 write-standing-requires-3 : tie.Need-write-standing-requires-3
 unfolding text textFrom
-write-standing-requires-3 c κs =
-    room-as (c .before .before .before .before .before .before .before .before .before .args .station) _ _ (spent-text (c .before .before .before .before .before .before .before .before .before .args .station) (omega (arith, c .before .before .before .before .before .if2 .left)) (c .before .before .before .if3 .left)) (landed _ (c .struct-told3 .given .1 .1 .1 .1 .1 .1 .1 .0 .1)) _ refl (c .before .before .before .before .before .before .before .before .before .pre)
+write-standing-requires-3 c κs = room-as _ _ _ _ _ (spent-text (c .before .before .before .before .before .before .args .station) _ (c .before .before .before .before .before .standing-of .ensures) _ _ (c .before .before .before .stands3 .given .1)) (toZ-ofZ (search needs)) _ refl (c .before .before .before .before .before .before .pre)
+
+returns : tie.Need-returns
+unfolding text textFrom
+returns c = puts-same (sym (idle-text _ _ (c .before .before .before .before .before .standing-of .ensures) (c .before .before .before .enum-told .given .1))) (c .write-word .ensures)
+
+returns-2 : tie.Need-returns-2
+unfolding text textFrom
+returns-2 c = puts-as _ _ _ _ _ (going-text (c .before .before .before .before .before .before .before .args .station) _ (c .before .before .before .before .before .before .standing-of .ensures) _ _ (c .before .before .before .before .stands .given .1)) (toZ-ofZ (search needs)) (c .write-standing .ensures)
+
+returns-3 : tie.Need-returns-3
+unfolding text textFrom
+returns-3 c = puts-as _ _ _ _ _ (decided-text (c .before .before .before .before .before .before .before .args .station) _ (c .before .before .before .before .before .before .standing-of .ensures) _ _ (c .before .before .before .before .stands2 .given .1)) (toZ-ofZ (search needs)) (c .write-standing2 .ensures)
 
 returns-4 : tie.Need-returns-4
 unfolding text textFrom
-returns-4 c =
-    puts-as (c .before .before .before .before .before .before .before .before .before .before .args .station) _ _ (spent-text (c .before .before .before .before .before .before .before .before .before .before .args .station) (omega (arith, c .before .before .before .before .before .before .if2 .left)) (c .before .before .before .before .if3 .left)) (landed _ (c .before .struct-told3 .given .1 .1 .1 .1 .1 .1 .1 .0 .1)) (c .write-standing3 .ensures)
+returns-4 c = puts-as _ _ _ _ _ (spent-text (c .before .before .before .before .before .before .before .args .station) _ (c .before .before .before .before .before .before .standing-of .ensures) _ _ (c .before .before .before .before .stands3 .given .1)) (toZ-ofZ (search needs)) (c .write-standing3 .ensures)
 
 pub write-phase-spec : {M : Type 1} → statement M
 write-phase-spec =
     tie.close
     (tie.spec
+    standing-of-requires
+    enum-told
     slice-aggregate-write-word
     write-word-requires
-    returns
+    enum-known-stands
     slice-aggregate-write-standing
     write-standing-requires
-    returns-2
+    enum-known-stands-2
     slice-aggregate-write-standing-2
     write-standing-requires-2
-    returns-3
+    enum-known-stands-3
     slice-aggregate-write-standing-3
     write-standing-requires-3
+    returns
+    returns-2
+    returns-3
     returns-4)
