@@ -1,9 +1,11 @@
--- The edges of the sheet's grammar as one table: a row is a line and what is read in it.
--- Relies on the forms; proofs/Sheet/Limits.antt proves the one statement `Edges`.
-use Rattle.model.specs.Kit.{List, [], _∷_, _++_, ℕ, zero, suc, replicate, pos, negsuc}
+-- The edges of the sheet's grammar as one table: a row is a line and what is read in it; and the limit of a line's steps.
+-- Relies on the forms and the sheet; proofs/Sheet/Limits.antt proves the statements `Edges` and `StepsLimit`.
+use Rattle.model.specs.Kit.{List, [], _∷_, _++_, none, ℕ, zero, suc, _+_, take, replicate, pos, negsuc}
 use mathlib.Core.Path.{_≡_}
+use Rattle.model.specs.Calls.{ran, boardRefusal}
 use Rattle.model.specs.Show.{text}
 use Rattle.model.specs.Forms.{station, times, Items, done, next, board, propose, steps, show, Reading, reads, unread, readLine}
+use Rattle.model.specs.Sheet.{ranText, turnedDown, playLine}
 
 -- what `(steps (times k 1))` holds
 unfoldable pub timesOne : (k : ℕ) → Items
@@ -78,3 +80,12 @@ Holds (r ∷ rs) = (readLine (r .line) ≡ r .reading) × Holds rs
 -- Every row holds.
 unfoldable pub Edges : Type 0
 Edges = Holds rows
+
+-- "65,536 steps run; 65,537 give 6": on any sound board the first line prints S and T that are 65,536 together, and on any laid
+-- board, sound or not, the second is refused.
+unfoldable pub StepsLimit : Type 0
+StepsLimit =
+    (laid : ℕ) (m : List ℕ) → (laid ≡ 0 → ⊥)
+    → (boardRefusal (take laid m) none ≡ none
+    → (s : ℕ) × (t : ℕ) × (playLine laid m (text "(steps (times 65536 1))") .printed ≡ ranText (ran s t)) × (s + t ≡ 65536))
+    × (playLine laid m (text "(steps (times 65537 1))") ≡ turnedDown laid m 6)

@@ -14,8 +14,8 @@ pub mod Show
 pub mod Told
 pub mod Forms
 pub mod Grammar
-pub mod Edges
 pub mod Sheet
+pub mod Edges
 pub mod AnyList
 pub mod SheetList
 pub mod Starred

@@ -2,6 +2,7 @@
 -- not." Relies on Lines; each row of the table is a line and what the definitions read in it.
 use mathlib.Core.Path.{_≡_, refl, sym, ap, _∙_, subst}
 use mathlib.Core.List.{List, [], _∷_}
+use mathlib.Core.Option.{none}
 use Prim.Native.Nat.{ℕ, zero, suc, _+_, _*_, _≤_, _<_}
 use native.Mathlib.Nat.{suc-mul}
 use native.Mathlib.Omega.{arith}
@@ -12,8 +13,8 @@ use Rattle.model.specs.Show.{textFrom, text}
 use Rattle.model.specs.Forms.{times, steps, repeated, expand, found, andThen, spaced, digit, digitsFrom, natural, number, figureIn}
 use Rattle.model.specs.Forms.{behind, timesIn, itemIn, itemsIn, same, wordOf, upToStop, firstWord, closing, formAfter, formIn, one, tooDeep, Reading, reads, orFour, readLine}
 use Rattle.model.specs.Sheet.{turnedDown, ranText, playReading, playLine}
-use Rattle.model.specs.Edges.{timesOne, deep, rows, Holds, Edges}
-use Rattle.model.proofs.Calls.Refusals.{Board}
+use Rattle.model.specs.Edges.{timesOne, deep, rows, Holds, Edges, StepsLimit}
+use Rattle.model.proofs.Calls.Refusals.{Board, board-of}
 use Rattle.model.specs.Runs.{taken, passed, answers}
 use Rattle.model.proofs.Calls.Runs.{ran-both}
 use Rattle.model.proofs.Sheet.Lines.{steps-print, steps-six}
@@ -38,8 +39,7 @@ unfolding timesOne textFrom text unless found andThen spaced digit digitsFrom na
 reads-65537 = refl
 
 module _ (laid : ℕ) (m : List ℕ) (on : laid ≡ 0 → ⊥) where
-  -- "65,536 steps run": on any sound board the line prints S and T, and these are 65,536 together
-  pub steps-run : Board (take laid m)
+  steps-run : Board (take laid m)
       → (s : ℕ) × (t : ℕ) × (playLine laid m (text "(steps (times 65536 1))") .printed ≡ ranText (ran s t)) × (s + t ≡ 65536)
   unfolding playLine playReading
   steps-run b = (
@@ -50,12 +50,15 @@ module _ (laid : ℕ) (m : List ℕ) (on : laid ≡ 0 → ⊥) where
     ran-both step (take laid m) (expand (timesOne 65536)) ∙ length-times-one 65536,
   )
 
-  -- "65,537 give 6": on any laid board, sound or not
-  pub steps-six-given : playLine laid m (text "(steps (times 65537 1))") ≡ turnedDown laid m 6
+  steps-six-given : playLine laid m (text "(steps (times 65537 1))") ≡ turnedDown laid m 6
   unfolding playLine playReading
   steps-six-given =
       ap (playReading laid m) reads-65537
       ∙ steps-six laid m on (timesOne 65537) (subst (λ (x : ℕ). 65536 < x) (sym (length-times-one 65537)) (lit< tt))
+
+pub steps-limit : StepsLimit
+unfolding StepsLimit
+steps-limit laid m on = (λ e. steps-run laid m on (board-of (take laid m) none e .0), steps-six-given laid m on)
 
 -- ---- the grammar's edges
 
