@@ -42,6 +42,10 @@ module _ {F : Type 0} where
   unfoldable pub inSB : List (Register F) → List (Flag × F)
   inSB = without⊥ (λ f k y. (f, y))
 
+  -- some register of those that were read was filled
+  unfoldable pub SomeFilled : List (Register F) → Type 0
+  SomeFilled rs = inSA rs ≡ [] → ⊥
+
   -- (commit, v') ∈ S_B. Where commits of several figures stand there 01 chooses: "the first commit read displaces adopts
   -- and then stays".
   unfoldable pub firstCommit : List (Flag × F) → Option F
@@ -106,11 +110,11 @@ module _ {F : Type 0} (o : Order F) where
   -- ---- the claims
 
   -- "starts at position 0 with nothing seen": of n reads the first n − 1 answer *read*, and the last one ends the collect as the
-  -- lines do on what all n met, if any register was filled. The station's own register is, on a sound board.
+  -- lines do on what all n met, if any of them was filled. The station's own register is, on a sound board.
   unfoldable pub Collects : Type 0
   Collects =
       (n K : ℕ) (t : Turn) (c : ℕ) (x : F) (rs : List (Register F)) (r : Register F)
-      → length rs + 1 ≡ n → (inSA (rs ++ (r ∷ [])) ≡ [] → ⊥)
+      → length rs + 1 ≡ n → SomeFilled (rs ++ (r ∷ []))
       → AllRead n K (reading t c x 0 nothing) rs × Ends K (rs ++ (r ∷ [])) c t (move o n K (through n K (reading t c x 0 nothing) rs) r)
 
   -- the lines leave nothing open: two ends of one collect are the same

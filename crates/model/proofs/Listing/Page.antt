@@ -13,7 +13,7 @@ use borrow.Author.Tests.{lt-ltb, le-ltb}
 use Rattle.model.specs.Figure.{figures}
 use Rattle.model.specs.Listing.{Order, Flag, adopt, commit, flagNumber, Register, empty, filled, Turn, turnM, turnA, turnB, first, second, third, Seen, nothing, seen}
 use Rattle.model.specs.Listing.{Stage, writing, reading, Move, stay, finish, ended, see, move, read, went, marked}
-use Rattle.model.specs.Collects.{_∈_, without⊥, inMax, inSA, inSB, firstCommit, Strict, above₂, ReadMax, LinesA, line8, line9, LinesB, line12, line13, line14}
+use Rattle.model.specs.Collects.{_∈_, without⊥, inMax, inSA, inSB, SomeFilled, firstCommit, Strict, above₂, ReadMax, LinesA, line8, line9, LinesB, line12, line13, line14}
 use Rattle.model.specs.Collects.{returned, Ends, through, AllRead, Collects, Leave}
 use Rattle.model.proofs.Listing.Sets.{two-not-only, max-unique}
 use Rattle.model.proofs.Listing.Order.{pair-total, strict}
@@ -74,9 +74,9 @@ module _ {F : Type 0} (o : Order F) (s : Strict o) where
 
   -- ---- the end
 
-  module _ (K : ℕ) (rs : List (Register F)) (c : ℕ) (x : F) (some-filled : inSA rs ≡ [] → ⊥) where
+  module _ (K : ℕ) (rs : List (Register F)) (c : ℕ) (x : F) (some-filled : SomeFilled rs) where
     ends : (t : Turn) (a : Seen F) → About o s t rs a → Ends o K rs c t (ended K t c x a)
-    unfolding About AboutM AboutA AboutB ended finish ReadMax inMax inSA inSB figure Ends returned
+    unfolding About AboutM AboutA AboutB ended finish ReadMax inMax inSA inSB SomeFilled figure Ends returned
     ends turnM nothing h = absurd (some-filled (none-held _ _ rs h))
     ends turnM (seen g k y) h = (k, y, h, refl)
     ends turnA nothing h = absurd (some-filled h)
