@@ -156,7 +156,7 @@ module _ {F : Type 0} where
     pairAbove k y j x = ltb j k || (eqb j k && o .above y x)
 
     -- One filled register is added to what was seen. "Best is the largest so far; in phase 6 the first commit read
-    -- displaces adopts and then stays."
+    -- displaces adopts and then stays." What a whole collect comes to by it, in the paper's own lines, is in Collects.
     unfoldable pub add : Turn → Seen F → Flag → ℕ → F → Seen F
     add turnM nothing f k y = seen first k y
     add turnM (seen g j x) f k y = cond (pairAbove k y j x) (seen g k y) (seen g j x)
