@@ -45,6 +45,7 @@ fn run_item(board: &mut [u8], line: &[u8], at: usize) -> Walked
             next: station.next,
         };
     }
+    // The number stands behind the seven bytes of "(times ".
     let times = known_number(line, at + 7);
     let rounds = times.value;
     let inner = times.next;
