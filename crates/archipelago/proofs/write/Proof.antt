@@ -5,15 +5,9 @@ use Rattle.model.proofs.Basics.Numbers.{landed}
 use Rattle.archipelago.proofs.write.Statement.{statement}
 use Rattle.archipelago.proofs.write.Tie as tie
 
-add-next : tie.Need-add-next
-add-next c = search needs
-
 returns : tie.Need-returns
 unfolding writing at
-returns c =
-    let f = c .before .before .args .station in
-    let x = landed (f .carried) (c .struct-told .given .1 .1 .1 .1 .1 .1 .1 .0 .1) in
-    λ i. record { station = writing f 0 0 .station; register = record { mark = c .before .before .args .mark; island = c .before .before .args .island; figure = x i }; writes = writing f 0 0 .writes; answer = writing f 0 0 .answer }
+returns c = search landed
 
 pub write-spec : {M : Type 1} → statement M
-write-spec = tie.close (tie.spec add-next returns)
+write-spec = tie.close (tie.spec (λ c. search needs) returns)

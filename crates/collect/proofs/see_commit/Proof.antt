@@ -3,26 +3,10 @@ use borrow.Author.Needs.{needs}
 use mathlib.Core.Path.{sym, _∙_}
 use mir.Facts.{toZ-ofZ}
 use Rattle.model.specs.Figure.{sameFigure}
-use Rattle.model.specs.Listing.{commit}
 use Rattle.model.proofs.Basics.Numbers.{landed}
 use Rattle.collect.proofs.ReadB.{commit-first, commit-beside, commit-same, commit-differs, third-stays}
 use Rattle.collect.proofs.see_commit.Statement.{statement}
 use Rattle.collect.proofs.see_commit.Tie as tie
-
-noted-requires : tie.Need-noted-requires
-noted-requires c κs = search needs
-
-returns : tie.Need-returns
-returns c = commit-first _ _ _ _ (c .before .if1 .taken) (c .noted .ensures) (toZ-ofZ (c .before .before .before .fits .figure))
-
-noted-requires-2 : tie.Need-noted-requires-2
-noted-requires-2 c κs = search needs
-
-returns-2 : tie.Need-returns-2
-returns-2 c = commit-beside _ _ _ _ (c .before .if2 .taken) (c .noted2 .ensures) (toZ-ofZ (c .before .before .before .before .before .fits .figure))
-
-same-requires : tie.Need-same-requires
-same-requires c κs = search needs
 
 returns-3 : tie.Need-returns-3
 returns-3 c =
@@ -30,19 +14,13 @@ returns-3 c =
     let y = toZ-ofZ (c .before .before .before .before .before .before .before .before .before .fits .figure) in
     commit-same _ _ (c .before .before .before .before .before .before .before .before .before .pre) (c .before .before .before .if3 .taken) ((λ i. sameFigure (sym x i) (sym y i)) ∙ sym (c .before .same .ensures) ∙ c .if4 .taken)
 
-noted-requires-3 : tie.Need-noted-requires-3
-noted-requires-3 c κs = search needs
-
 returns-4 : tie.Need-returns-4
 returns-4 c =
     let x = landed (c .before .before .before .before .before .before .before .before .before .before .before .args .station .best) (c .before .before .before .before .struct-told .given .1 .1 .1 .1 .1 .1 .1 .1 .0 .1) in
     let y = toZ-ofZ (c .before .before .before .before .before .before .before .before .before .before .before .fits .figure) in
     commit-differs _ _ _ _ (c .before .before .before .before .before .if3 .taken) ((λ i. sameFigure (sym x i) (sym y i)) ∙ sym (c .before .before .before .same .ensures) ∙ c .before .before .if4 .left) (c .noted3 .ensures) x
 
-returns-5 : tie.Need-returns-5
-returns-5 c = third-stays commit _ _ (c .before .before .before .before .before .before .pre) (c .before .before .before .before .if1 .left) (c .before .before .if2 .left) (c .if3 .left)
-
 pub see-commit-spec : {M : Type 1} → statement M
 see-commit-spec =
     tie.close
-    (tie.spec noted-requires returns noted-requires-2 returns-2 same-requires returns-3 noted-requires-3 returns-4 returns-5)
+    (tie.spec (λ c κs. search needs) (λ c. search (commit-first, needs)) (λ c κs. search needs) (λ c. search (commit-beside, needs)) (λ c κs. search needs) returns-3 (λ c κs. search needs) returns-4 (λ c. search third-stays))

@@ -2,27 +2,11 @@
 use borrow.Author.Needs.{needs}
 use mathlib.Core.Path.{sym, _∙_}
 use Rattle.model.specs.Figure.{figures}
-use Rattle.model.specs.Listing.{turnM, pairAbove}
+use Rattle.model.specs.Listing.{pairAbove}
 use Rattle.model.proofs.Basics.Numbers.{landed}
 use Rattle.collect.proofs.OneRead.{see-empty, m-first, m-above, m-below}
 use Rattle.collect.proofs.see_m.Statement.{statement}
 use Rattle.collect.proofs.see_m.Tie as tie
-
-returns : tie.Need-returns
-returns c = see-empty turnM _ _ (c .before .before .pre) (c .if1 .taken)
-
-noted-requires : tie.Need-noted-requires
-noted-requires c κs = search needs
-
-returns-2 : tie.Need-returns-2
-returns-2 c =
-    m-first _ _ _ _ (c .before .before .before .before .if1 .left) (c .before .before .if2 .taken) (c .noted .ensures) (landed _ (c .before .struct-told .given .1 .1 .0 .1))
-
-pair-above-requires : tie.Need-pair-above-requires
-pair-above-requires c κs = search needs
-
-noted-requires-2 : tie.Need-noted-requires-2
-noted-requires-2 c κs = search needs
 
 returns-3 : tie.Need-returns-3
 returns-3 c =
@@ -43,4 +27,4 @@ returns-4 c =
 
 pub see-m-spec : {M : Type 1} → statement M
 see-m-spec =
-    tie.close (tie.spec returns noted-requires returns-2 pair-above-requires noted-requires-2 returns-3 returns-4)
+    tie.close (tie.spec (λ c. search see-empty) (λ c κs. search needs) (λ c. search (landed, m-first)) (λ c κs. search needs) (λ c κs. search needs) returns-3 returns-4)

@@ -7,20 +7,11 @@ use Rattle.figures.proofs.Laws.Signs.{unsigned, unsigned-le, bits-in, p
 use Rattle.figures.proofs.bits_of.Statement.{statement}
 use Rattle.figures.proofs.bits_of.Tie as tie
 
-cast-result : tie.Need-cast-result
-cast-result c = unsigned _ _ (negative _ (c .before .fits .v) (c .if1 .taken)) (omega arith)
-
-sub-result : tie.Need-sub-result
-sub-result c = unsigned-le _ _ (negative _ (c .before .fits .v) (c .if1 .taken)) (omega arith)
-
 cast-result-2 : tie.Need-cast-result-2
 cast-result-2 c = unsigned _ _ (positive _ (c .before .fits .v) (c .if1 .left)) (bits-in (c .before .args .v) (c .before .fits .v))
 
 returns : tie.Need-returns
 returns c = ap (λ (z : ℤ). 4294967295 - natAbs z) (negative _ (c .before .fits .v) (c .if1 .taken)) ∙ omega (arith, bits-in (c .before .args .v) (c .before .fits .v))
 
-returns-2 : tie.Need-returns-2
-returns-2 c = ap natAbs (positive _ (c .before .fits .v) (c .if1 .left))
-
 pub bits-of-spec : {M : Type 1} → statement M
-bits-of-spec = tie.close (tie.spec cast-result sub-result cast-result-2 returns returns-2)
+bits-of-spec = tie.close (tie.spec (λ c. unsigned _ _ (negative _ (c .before .fits .v) (c .if1 .taken)) (omega arith)) (λ c. unsigned-le _ _ (negative _ (c .before .fits .v) (c .if1 .taken)) (omega arith)) cast-result-2 returns (λ c. search positive))

@@ -4,14 +4,5 @@ use Rattle.figures.proofs.Laws.Signs.{figure-read}
 use Rattle.figures.proofs.figure_at.Statement.{statement}
 use Rattle.figures.proofs.figure_at.Tie as tie
 
-word-at-requires : tie.Need-word-at-requires
-word-at-requires c κs = search needs
-
-signed-requires : tie.Need-signed-requires
-signed-requires c κs = search needs
-
-returns : tie.Need-returns
-returns c = figure-read _ _ _ (c .before .word-at .ensures) (c .signed .ensures)
-
 pub figure-at-spec : {M : Type 1} → statement M
-figure-at-spec = tie.close (tie.spec word-at-requires signed-requires returns)
+figure-at-spec = tie.close (tie.spec (λ c κs. search needs) (λ c κs. search needs) (λ c. search figure-read))

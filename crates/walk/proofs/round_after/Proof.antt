@@ -5,14 +5,5 @@ use Rattle.walk.proofs.Laws.Idle.{none-left, one-more}
 use Rattle.walk.proofs.round_after.Statement.{statement}
 use Rattle.walk.proofs.round_after.Tie as tie
 
-returns : tie.Need-returns
-returns c = none-left _ _ _ (c .if1 .taken)
-
-add-result : tie.Need-add-result
-add-result c = search needs
-
-returns-2 : tie.Need-returns-2
-returns-2 c = one-more _ _ _ (c .if1 .left)
-
 pub round-after-spec : {M : Type 1} → statement M
-round-after-spec = tie.close (tie.spec returns add-result returns-2)
+round-after-spec = tie.close (tie.spec (λ c. none-left _ _ _ (c .if1 .taken)) (λ c. search needs) (λ c. one-more _ _ _ (c .if1 .left)))

@@ -7,12 +7,7 @@ use Rattle.archipelago.proofs.finish.ended.Tie as tie
 
 returns : tie.Need-returns
 unfolding noting
-returns c =
-    ended-nothing (c .before .before .before .args .station) _ (c .before .if1 .taken)
-    (landed (c .before .before .before .args .station .carried) (c .struct-told .given .1 .1 .1 .1 .1 .1 .1 .0 .1))
-
-returns-2 : tie.Need-returns-2
-returns-2 c = ended-seen _ (c .before .before .pre) (c .if1 .left)
+returns c = search (landed, ended-nothing)
 
 pub ended-spec : {M : Type 1} → statement M
-ended-spec = tie.close (tie.spec returns returns-2)
+ended-spec = tie.close (tie.spec returns (λ c. search ended-seen))

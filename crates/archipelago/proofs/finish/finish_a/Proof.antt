@@ -8,18 +8,6 @@ use Rattle.archipelago.proofs.Ends.{begun, committed, not-committed}
 use Rattle.archipelago.proofs.finish.finish_a.Statement.{statement}
 use Rattle.archipelago.proofs.finish.finish_a.Tie as tie
 
-ended-requires : tie.Need-ended-requires
-ended-requires c κs = search needs
-
-all-equal-requires : tie.Need-all-equal-requires
-all-equal-requires c κs = search needs
-
-start-requires : tie.Need-start-requires
-start-requires c κs = search needs
-
-stay-requires : tie.Need-stay-requires
-stay-requires c κs = search needs
-
 returns : tie.Need-returns
 returns c =
     let last = c .before .before .before .before .before .before .ended .result in
@@ -27,12 +15,6 @@ returns c =
     (begun 5 (last .island) 2 (last .proposal) (last .best) _ _ (Marked 2) _ _ (c .before .before .start .ensures)
     (landed _ (c .before .before .before .struct-told .given .1 .1 .1 .1 .1 .1 .1 .1 .0 .1)) (c .stay .ensures)
     (landed _ (c .before .struct-told2 .given .1 .1 .1 .1 .1 .1 .1 .1 .0 .1)))
-
-start-requires-2 : tie.Need-start-requires-2
-start-requires-2 c κs = search needs
-
-stay-requires-2 : tie.Need-stay-requires-2
-stay-requires-2 c κs = search needs
 
 returns-2 : tie.Need-returns-2
 returns-2 c =
@@ -45,4 +27,4 @@ returns-2 c =
 pub finish-a-spec : {M : Type 1} → statement M
 finish-a-spec =
     tie.close
-    (tie.spec ended-requires all-equal-requires start-requires stay-requires returns start-requires-2 stay-requires-2 returns-2)
+    (tie.spec (λ c κs. search needs) (λ c κs. search needs) (λ c κs. search needs) (λ c κs. search needs) returns (λ c κs. search needs) (λ c κs. search needs) returns-2)

@@ -5,19 +5,10 @@ use Rattle.archipelago.proofs.Ends.{settled, went-on, last-island}
 use Rattle.archipelago.proofs.finish.finish_b.Statement.{statement}
 use Rattle.archipelago.proofs.finish.finish_b.Tie as tie
 
-ended-requires : tie.Need-ended-requires
-ended-requires c κs = search needs
-
-decided-requires : tie.Need-decided-requires
-decided-requires c κs = search needs
-
 returns : tie.Need-returns
 returns c =
     λ e. settled _ _ (c .before .before .before .before .ended .result) _ (c .before .before .before .before .ended .ensures) e _ (c .before .before .if1 .taken)
     (landed _ (c .before .struct-told .given .1 .1 .1 .1 .1 .1 .1 .1 .0 .1)) (c .decided .ensures)
-
-onward-requires : tie.Need-onward-requires
-onward-requires c κs = last-island _ (c .before .before .before .before .args .station) _ (c .before .before .before .ended .ensures) (c .before .before .before .before .pre .1)
 
 returns-2 : tie.Need-returns-2
 returns-2 c =
@@ -26,4 +17,4 @@ returns-2 c =
 
 pub finish-b-spec : {M : Type 1} → statement M
 finish-b-spec =
-    tie.close (tie.spec ended-requires decided-requires returns onward-requires returns-2)
+    tie.close (tie.spec (λ c κs. search needs) (λ c κs. search needs) returns (λ c κs. search last-island) returns-2)

@@ -6,15 +6,6 @@ use Rattle.archipelago.proofs.Ends.{begun, went}
 use Rattle.archipelago.proofs.finish.finish_m.Statement.{statement}
 use Rattle.archipelago.proofs.finish.finish_m.Tie as tie
 
-ended-requires : tie.Need-ended-requires
-ended-requires c κs = search needs
-
-start-requires : tie.Need-start-requires
-start-requires c κs = search needs
-
-stay-requires : tie.Need-stay-requires
-stay-requires c κs = search needs
-
 returns : tie.Need-returns
 returns c =
     let last = c .before .before .before .before .ended .result in
@@ -24,4 +15,4 @@ returns c =
     (landed _ (c .before .struct-told2 .given .1 .1 .1 .1 .1 .1 .1 .1 .0 .1)))
 
 pub finish-m-spec : {M : Type 1} → statement M
-finish-m-spec = tie.close (tie.spec ended-requires start-requires stay-requires returns)
+finish-m-spec = tie.close (tie.spec (λ c κs. search needs) (λ c κs. search needs) (λ c κs. search needs) returns)

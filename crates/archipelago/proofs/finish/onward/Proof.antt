@@ -7,25 +7,10 @@ use Rattle.archipelago.proofs.Ends.{begun, adopted, exhausted}
 use Rattle.archipelago.proofs.finish.onward.Statement.{statement}
 use Rattle.archipelago.proofs.finish.onward.Tie as tie
 
-add-island : tie.Need-add-island
-add-island c = search needs
-
-start-requires : tie.Need-start-requires
-start-requires c κs = search needs
-
-stay-requires : tie.Need-stay-requires
-stay-requires c κs = search needs
-
 returns : tie.Need-returns
 returns c =
     adopted _ _ _ _ _ (c .before .before .if1 .taken)
     (begun 1 _ 0 _ _ _ _ (Adopted (c .before .before .before .before .args .station .island + 1)) _ _ (c .before .start .ensures) (toZ-ofZ (c .before .before .before .before .fits .figure)) (c .stay .ensures) (toZ-ofZ (c .before .before .before .before .fits .figure)))
-
-start-requires-2 : tie.Need-start-requires-2
-start-requires-2 c κs = search needs
-
-stay-requires-2 : tie.Need-stay-requires-2
-stay-requires-2 c κs = search needs
 
 returns-2 : tie.Need-returns-2
 returns-2 c =
@@ -35,4 +20,4 @@ returns-2 c =
 pub onward-spec : {M : Type 1} → statement M
 onward-spec =
     tie.close
-    (tie.spec add-island start-requires stay-requires returns start-requires-2 stay-requires-2 returns-2)
+    (tie.spec (λ c. search needs) (λ c κs. search needs) (λ c κs. search needs) returns (λ c κs. search needs) (λ c κs. search needs) returns-2)

@@ -4,15 +4,9 @@ use Rattle.archipelago.specs.Advanced.{passing, at}
 use Rattle.archipelago.proofs.read.pass.Statement.{statement}
 use Rattle.archipelago.proofs.read.pass.Tie as tie
 
-add-next : tie.Need-add-next
-add-next c = search needs
-
-stay-requires : tie.Need-stay-requires
-stay-requires c κs = search needs
-
 returns : tie.Need-returns
 unfolding passing at
 returns c = c .stay .ensures
 
 pub pass-spec : {M : Type 1} → statement M
-pass-spec = tie.close (tie.spec add-next stay-requires returns)
+pass-spec = tie.close (tie.spec (λ c. search needs) (λ c κs. search needs) returns)

@@ -7,24 +7,15 @@ use Rattle.archipelago.proofs.Moves.{reads-kept, passed, seeing-kept, s
 use Rattle.archipelago.proofs.read.read_a.Statement.{statement}
 use Rattle.archipelago.proofs.read.read_a.Tie as tie
 
-see-a-requires : tie.Need-see-a-requires
-see-a-requires c κs = reads-kept turnA _ _ (c .pre)
-
-goes-on-requires : tie.Need-goes-on-requires
-goes-on-requires c κs = search needs
-
 pass-requires : tie.Need-pass-requires
 pass-requires c κs = omega (arith, seeing-position turnA _ _ _ _ (c .before .before .see-a .ensures) (c .before .before .before .pre .position), c .before .before .before .fits .n)
 
 returns : tie.Need-returns
-returns c = λ k. passed turnA _ _ (c .before .before .before .before .pre) k _ _ _ (sym (c .before .before .goes-on .ensures) ∙ c .before .if1 .taken) (c .before .before .before .see-a .ensures) (c .pass .ensures)
-
-finish-a-requires : tie.Need-finish-a-requires
-finish-a-requires c κs = seeing-kept turnA _ _ _ (c .before .before .see-a .ensures)
+returns c = λ k. passed turnA _ _ (search) k _ _ _ (sym (search) ∙ c .before .if1 .taken) (search) (c .pass .ensures)
 
 returns-2 : tie.Need-returns-2
-returns-2 c = λ k. finished turnA _ k _ _ _ _ (sym (c .before .before .goes-on .ensures) ∙ c .before .if1 .left) (c .before .before .before .see-a .ensures) (c .finish-a .ensures k)
+returns-2 c = λ k. finished turnA _ k _ _ _ _ (sym (search) ∙ c .before .if1 .left) (search) (c .finish-a .ensures k)
 
 pub read-a-spec : {M : Type 1} → statement M
 read-a-spec =
-    tie.close (tie.spec see-a-requires goes-on-requires pass-requires returns finish-a-requires returns-2)
+    tie.close (tie.spec (λ c κs. reads-kept turnA _ _ (c .pre)) (λ c κs. search needs) pass-requires returns (λ c κs. search seeing-kept) returns-2)

@@ -7,12 +7,6 @@ use Rattle.archipelago.proofs.Moves.{reads-kept, passed, seeing-kept, s
 use Rattle.archipelago.proofs.read.read_b.Statement.{statement}
 use Rattle.archipelago.proofs.read.read_b.Tie as tie
 
-see-b-requires : tie.Need-see-b-requires
-see-b-requires c κs = reads-kept _ _ _ (c .pre .0)
-
-goes-on-requires : tie.Need-goes-on-requires
-goes-on-requires c κs = search needs
-
 pass-requires : tie.Need-pass-requires
 pass-requires c κs =
     let e = flagOf (c .before .before .before .args .station .flag) in
@@ -35,4 +29,4 @@ returns-2 c =
 
 pub read-b-spec : {M : Type 1} → statement M
 read-b-spec =
-    tie.close (tie.spec see-b-requires goes-on-requires pass-requires returns finish-b-requires returns-2)
+    tie.close (tie.spec (λ c κs. reads-kept _ _ _ (c .pre .0)) (λ c κs. search needs) pass-requires returns finish-b-requires returns-2)

@@ -28,23 +28,8 @@ Inv-loop s₀ i₀ s i = (i ≤ length s₀) × (length s ≡ length s₀) × (s
 abbrev μ-loop : tie.MeasureT-loop
 μ-loop s₀ i₀ s i = length s - i
 
-loop-holds : tie.Need-loop-holds Inv-loop μ-loop
-loop-holds c = (zero-le, refl, refl)
-
-slice-write-s : tie.Need-slice-write-s Inv-loop μ-loop
-slice-write-s c = search needs
-
-add-i : tie.Need-add-i Inv-loop μ-loop
-add-i c = search needs
-
-loop-less : tie.Need-loop-less Inv-loop μ-loop
-loop-less c = simp length-set (omega arith)
-
 loop-again : tie.Need-loop-again Inv-loop μ-loop
 loop-again c = again (c .before .before .args .s .now) (c .before .loop .s) (c .before .loop .i) (c .before .loop .inv .1) (c .before .loop .inv .2) (c .loop-test .taken)
-
-same-length : tie.Need-same-length Inv-loop μ-loop
-same-length c = c .before .loop .inv .1
 
 returns : tie.Need-returns Inv-loop μ-loop
 returns c = ended (c .before .before .args .s .now) (c .before .loop .s) (c .before .loop .i) (c .before .loop .inv .0) (c .before .loop .inv .1) (c .before .loop .inv .2) (omega arith)
@@ -55,10 +40,10 @@ clear-spec =
     (tie.spec
     Inv-loop
     μ-loop
-    loop-holds
-    slice-write-s
-    add-i
-    loop-less
+    (λ c. (zero-le, refl, refl))
+    (λ c. search needs)
+    (λ c. search needs)
+    (λ c. simp length-set (omega arith))
     loop-again
-    same-length
+    (λ c. search needs)
     returns)

@@ -8,38 +8,17 @@ use Rattle.calls.proofs.Laws.Laying.{turned-down, cleared, laid}
 use Rattle.calls.proofs.laying.lay.Statement.{statement}
 use Rattle.calls.proofs.laying.lay.Tie as tie
 
-returns : tie.Need-returns
-returns c = turned-down _ _ _ 7 (shape-7 _ _ _ _ (omega arith))
-
-returns-2 : tie.Need-returns-2
-returns-2 c = turned-down _ _ _ 8 (shape-8-low _ _ _ _ (omega arith) (omega arith))
-
-returns-3 : tie.Need-returns-3
-returns-3 c = turned-down _ _ _ 8 (shape-8-high _ _ _ _ (omega arith) (omega arith))
-
 returns-4 : tie.Need-returns-4
 returns-4 c = turned-down _ _ _ 9 (shape-9-low _ _ _ _ (omega arith) (omega arith) (omega arith) (omega arith))
 
 returns-5 : tie.Need-returns-5
 returns-5 c = turned-down _ _ _ 9 (shape-9-high _ _ _ _ (omega arith) (omega arith) (omega arith) (omega arith))
 
-board-length-requires : tie.Need-board-length-requires
-board-length-requires c κs = search needs
-
 returns-6 : tie.Need-returns-6
 returns-6 c = turned-down _ _ _ 10 (shape-10 _ _ _ _ (omega arith) (omega arith) (omega arith) (omega arith) (omega arith) (λ e. omega arith))
 
-clear-requires : tie.Need-clear-requires
-clear-requires c κs = search needs
-
-slice-write-board : tie.Need-slice-write-board
-slice-write-board c = search needs
-
 slice-write-board-2 : tie.Need-slice-write-board-2
 slice-write-board-2 c = simp length-set (cleared (c .before .before .clear .last .0) (c .before .before .before .before .before .before .before .before .before .before .before .before .args .board .now) (c .before .before .clear .ensures) (omega arith))
-
-same-length : tie.Need-same-length
-same-length c = search needs
 
 returns-7 : tie.Need-returns-7
 returns-7 c = laid _ _ _ _ (record { long = omega arith; stations-low = omega arith; stations-high = omega arith; islands-low = omega arith; islands-high = omega arith; len = omega arith }) (c .before .before .clear .ensures)
@@ -48,15 +27,15 @@ pub lay-spec : {M : Type 1} → statement M
 lay-spec =
     tie.close
     (tie.spec
-    returns
-    returns-2
-    returns-3
+    (λ c. turned-down _ _ _ 7 (shape-7 _ _ _ _ (omega arith)))
+    (λ c. turned-down _ _ _ 8 (shape-8-low _ _ _ _ (omega arith) (omega arith)))
+    (λ c. turned-down _ _ _ 8 (shape-8-high _ _ _ _ (omega arith) (omega arith)))
     returns-4
     returns-5
-    board-length-requires
+    (λ c κs. search needs)
     returns-6
-    clear-requires
-    slice-write-board
+    (λ c κs. search needs)
+    (λ c. search needs)
     slice-write-board-2
-    same-length
+    (λ c. search needs)
     returns-7)

@@ -3,8 +3,5 @@ use Rattle.calls.proofs.Laws.Showing.{not-shown}
 use Rattle.calls.proofs.showing.not_shown.Statement.{statement}
 use Rattle.calls.proofs.showing.not_shown.Tie as tie
 
-returns : tie.Need-returns
-returns c = not-shown _
-
 pub not-shown-spec : {M : Type 1} → statement M
-not-shown-spec = tie.close (tie.spec returns)
+not-shown-spec = tie.close (tie.spec (λ c. not-shown _))

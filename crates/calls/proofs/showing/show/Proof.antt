@@ -6,21 +6,6 @@ use Rattle.calls.proofs.Laws.Showing.{shows, refused-shown}
 use Rattle.calls.proofs.showing.show.Statement.{statement}
 use Rattle.calls.proofs.showing.show.Tie as tie
 
-check-board-requires : tie.Need-check-board-requires
-check-board-requires c κs = search needs
-
-enum-known-checked : tie.Need-enum-known-checked
-enum-known-checked c = search needs
-
-not-shown-requires : tie.Need-not-shown-requires
-not-shown-requires c κs = search needs
-
-enum-told : tie.Need-enum-told
-enum-told c = search needs
-
-show-on-requires : tie.Need-show-on-requires
-show-on-requires c κs = passed _ _ (c .enum-told .given .1) (c .before .before .check-board .ensures)
-
 returns : tie.Need-returns
 returns c = c .not-shown .ensures ∙ refused-shown _ (c .before .before .before .before .check-board .result) _ (c .before .before .checked .given .1) (c .before .before .before .before .check-board .ensures)
 
@@ -31,10 +16,10 @@ pub show-spec : {M : Type 1} → statement M
 show-spec =
     tie.close
     (tie.spec
-    check-board-requires
-    enum-known-checked
-    not-shown-requires
-    enum-told
-    show-on-requires
+    (λ c κs. search needs)
+    (λ c. search needs)
+    (λ c κs. search needs)
+    (λ c. search needs)
+    (λ c κs. search passed)
     returns
     returns-2)

@@ -6,18 +6,9 @@ use Rattle.capi.proofs.Laws.Board.{proposes}
 use Rattle.capi.proofs.board.lufanelis_propose.Statement.{statement}
 use Rattle.capi.proofs.board.lufanelis_propose.Tie as tie
 
-propose-requires : tie.Need-propose-requires
-propose-requires c κs = search needs
-
-verdict-number-requires : tie.Need-verdict-number-requires
-verdict-number-requires c κs = search needs
-
-same-length : tie.Need-same-length
-same-length c = search needs
-
 returns : tie.Need-returns
 returns c = proposes _ _ _ _ _ _ _ (toZ-ofZ (search needs)) (c .verdict-number .ensures) (c .before .before .before .propose .ensures)
 
 pub lufanelis-propose-spec : {M : Type 1} → statement M
 lufanelis-propose-spec =
-    tie.close (tie.spec propose-requires verdict-number-requires same-length returns)
+    tie.close (tie.spec (λ c κs. search needs) (λ c κs. search needs) (λ c. search needs) returns)

@@ -5,17 +5,5 @@ use Rattle.capi.proofs.Laws.Board.{run-few, run-packed}
 use Rattle.capi.proofs.board.lufanelis_run.Statement.{statement}
 use Rattle.capi.proofs.board.lufanelis_run.Tie as tie
 
-run-requires : tie.Need-run-requires
-run-requires c κs = search needs
-
-run-number-requires : tie.Need-run-number-requires
-run-number-requires c κs = run-few _ _ _ _ (c .before .before .run .ensures)
-
-same-length : tie.Need-same-length
-same-length c = search needs
-
-returns : tie.Need-returns
-returns c = run-packed _ _ _ _ (c .before .before .before .run .ensures) _ (c .run-number .ensures)
-
 pub lufanelis-run-spec : {M : Type 1} → statement M
-lufanelis-run-spec = tie.close (tie.spec run-requires run-number-requires same-length returns)
+lufanelis-run-spec = tie.close (tie.spec (λ c κs. search needs) (λ c κs. run-few _ _ _ _ (c .before .before .run .ensures)) (λ c. search needs) (λ c. run-packed _ _ _ _ (search) _ (c .run-number .ensures)))

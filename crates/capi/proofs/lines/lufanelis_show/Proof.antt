@@ -8,35 +8,14 @@ use Rattle.capi.proofs.Laws.Lines.{show-short, show-turned, line-fits, 
 use Rattle.capi.proofs.lines.lufanelis_show.Statement.{statement}
 use Rattle.capi.proofs.lines.lufanelis_show.Tie as tie
 
-returns : tie.Need-returns
-returns c = show-short _ _ (omega (arith, c .if1 .taken))
-
-show-requires : tie.Need-show-requires
-show-requires c κs = search needs
-
-verdict-number-requires : tie.Need-verdict-number-requires
-verdict-number-requires c κs = search needs
-
-cast-result : tie.Need-cast-result
-cast-result c = search needs
-
 returns-2 : tie.Need-returns-2
-returns-2 c = show-turned _ (c .before .before .show .result) (c .before .before .show .ensures) _ (omega (arith, c .before .before .before .if1 .left)) _ (c .before .verdict-number .ensures) (omega (arith, c .if2 .taken))
-
-slice-aggregate-copy : tie.Need-slice-aggregate-copy
-slice-aggregate-copy c = search needs
-
-copy-requires : tie.Need-copy-requires
-copy-requires c κs = line-fits _ (c .before .before .before .before .before .show .result) (c .before .before .before .before .before .show .ensures) (c .before .before .before .before .before .before .before .before .before .args .line .now) (omega (arith, c .before .before .before .before .before .before .if1 .left))
+returns-2 c = show-turned _ (search) (search) _ (omega (arith, c .before .before .before .if1 .left)) _ (search) (omega (arith, c .if2 .taken))
 
 cast-result-2 : tie.Need-cast-result-2
 cast-result-2 c = record { fits = omega (arith, len-fits _ (c .before .before .before .before .before .before .before .before .before .show .result) (c .before .before .before .before .before .before .before .before .before .show .ensures)) }
 
 mul-result : tie.Need-mul-result
 mul-result c = record { fits = omega (arith, len-fits _ (c .before .before .before .before .before .before .before .before .before .show .result) (c .before .before .before .before .before .before .before .before .before .show .ensures)) }
-
-same-length : tie.Need-same-length
-same-length c = search needs
 
 returns-3 : tie.Need-returns-3
 returns-3 c =
@@ -46,14 +25,14 @@ pub lufanelis-show-spec : {M : Type 1} → statement M
 lufanelis-show-spec =
     tie.close
     (tie.spec
-    returns
-    show-requires
-    verdict-number-requires
-    cast-result
+    (λ c. show-short _ _ (omega (arith, c .if1 .taken)))
+    (λ c κs. search needs)
+    (λ c κs. search needs)
+    (λ c. search needs)
     returns-2
-    slice-aggregate-copy
-    copy-requires
+    (λ c. search needs)
+    (λ c κs. search line-fits)
     cast-result-2
     mul-result
-    same-length
+    (λ c. search needs)
     returns-3)

@@ -5,14 +5,5 @@ use Rattle.capi.proofs.Laws.Lines.{word-fits, word-is}
 use Rattle.capi.proofs.lines.lufanelis_word.Statement.{statement}
 use Rattle.capi.proofs.lines.lufanelis_word.Tie as tie
 
-form-word-requires : tie.Need-form-word-requires
-form-word-requires c κs = search needs
-
-word-number-requires : tie.Need-word-number-requires
-word-number-requires c κs = word-fits _ _ (c .form-word .ensures .bytes)
-
-returns : tie.Need-returns
-returns c = word-is _ _ (c .before .form-word .ensures .bytes) _ (c .word-number .ensures)
-
 pub lufanelis-word-spec : {M : Type 1} → statement M
-lufanelis-word-spec = tie.close (tie.spec form-word-requires word-number-requires returns)
+lufanelis-word-spec = tie.close (tie.spec (λ c κs. search needs) (λ c κs. word-fits _ _ (c .form-word .ensures .bytes)) (λ c. search word-is))

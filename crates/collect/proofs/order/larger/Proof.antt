@@ -7,9 +7,6 @@ use Rattle.collect.proofs.Figures.{larger-second, larger-first}
 use Rattle.collect.proofs.order.larger.Statement.{statement}
 use Rattle.collect.proofs.order.larger.Tie as tie
 
-above-requires : tie.Need-above-requires
-above-requires c κs = search needs
-
 returns : tie.Need-returns
 returns c =
     let x = toZ-ofZ (c .before .before .fits .x) in
@@ -23,4 +20,4 @@ returns-2 c =
     x ∙ larger-first _ _ ((λ i. above (sym y i) (sym x i)) ∙ sym (c .before .above .ensures) ∙ c .if1 .left)
 
 pub larger-spec : {M : Type 1} → statement M
-larger-spec = tie.close (tie.spec above-requires returns returns-2)
+larger-spec = tie.close (tie.spec (λ c κs. search needs) returns returns-2)

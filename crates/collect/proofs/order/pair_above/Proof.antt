@@ -12,9 +12,6 @@ returns : tie.Need-returns
 unfolding pairAbove
 returns c = simp (lt-ltb _ _ (c .if1 .taken))
 
-above-requires : tie.Need-above-requires
-above-requires c κs = search needs
-
 returns-2 : tie.Need-returns-2
 unfolding pairAbove figures
 returns-2 c =
@@ -27,4 +24,4 @@ unfolding pairAbove
 returns-3 c = simp (le-ltb _ _ (c .before .if1 .left), ne-eqb _ _ (c .if2 .left))
 
 pub pair-above-spec : {M : Type 1} → statement M
-pair-above-spec = tie.close (tie.spec returns above-requires returns-2 returns-3)
+pair-above-spec = tie.close (tie.spec returns (λ c κs. search needs) returns-2 returns-3)

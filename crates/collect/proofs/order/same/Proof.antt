@@ -3,8 +3,5 @@ use Rattle.collect.proofs.Figures.{same-bits}
 use Rattle.collect.proofs.order.same.Statement.{statement}
 use Rattle.collect.proofs.order.same.Tie as tie
 
-returns : tie.Need-returns
-returns c = same-bits (c .args .x) (c .args .y) (c .fits .x) (c .fits .y)
-
 pub same-spec : {M : Type 1} → statement M
-same-spec = tie.close (tie.spec returns)
+same-spec = tie.close (tie.spec (λ c. same-bits (c .args .x) (c .args .y) (c .fits .x) (c .fits .y)))

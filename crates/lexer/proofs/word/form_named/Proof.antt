@@ -1,6 +1,6 @@
 -- `word::form_named` meets its contract: `check::same` answers as the model's test does, so the first text that is equal names the form.
 use mathlib.Core.Path.{_≡_}
-use mathlib.Core.Bool.{true, false}
+use mathlib.Core.Bool.{false}
 use borrow.Author.Needs.{needs}
 use Rattle.model.specs.Forms.{same}
 use Rattle.model.specs.Show.{text, textFrom}
@@ -24,65 +24,39 @@ not-show : (c : tie.Else4) → same (c .before .before .before .before .before .
 unfolding text textFrom
 not-show c = same-says _ (text "show") _ false (c .before .same4 .ensures) (c .if4 .left)
 
-slice-aggregate-same : tie.Need-slice-aggregate-same
-slice-aggregate-same c = search needs
-
-same-requires : tie.Need-same-requires
-same-requires c κs = search needs
-
 returns : tie.Need-returns
 unfolding text textFrom
-returns c = names-board _ (same-says _ (text "board") _ true (c .before .same .ensures) (c .if1 .taken))
-
-slice-aggregate-same-2 : tie.Need-slice-aggregate-same-2
-slice-aggregate-same-2 c = search needs
-
-same-requires-2 : tie.Need-same-requires-2
-same-requires-2 c κs = search needs
+returns c = search (same-says, names-board)
 
 returns-2 : tie.Need-returns-2
 unfolding text textFrom
-returns-2 c = names-propose _ (not-board (c .before .before .before)) (same-says _ (text "propose") _ true (c .before .same2 .ensures) (c .if2 .taken))
-
-slice-aggregate-same-3 : tie.Need-slice-aggregate-same-3
-slice-aggregate-same-3 c = search needs
-
-same-requires-3 : tie.Need-same-requires-3
-same-requires-3 c κs = search needs
+returns-2 c = search (same-says, names-propose)
 
 returns-3 : tie.Need-returns-3
 unfolding text textFrom
-returns-3 c = names-steps _ (not-board (c .before .before .before .before .before .before)) (not-propose (c .before .before .before)) (same-says _ (text "steps") _ true (c .before .same3 .ensures) (c .if3 .taken))
-
-slice-aggregate-same-4 : tie.Need-slice-aggregate-same-4
-slice-aggregate-same-4 c = search needs
-
-same-requires-4 : tie.Need-same-requires-4
-same-requires-4 c κs = search needs
+returns-3 c = search (same-says, names-steps)
 
 returns-4 : tie.Need-returns-4
 unfolding text textFrom
-returns-4 c =
-    names-show _ (not-board (c .before .before .before .before .before .before .before .before .before)) (not-propose (c .before .before .before .before .before .before)) (not-steps (c .before .before .before))
-    (same-says _ (text "show") _ true (c .before .same4 .ensures) (c .if4 .taken))
+returns-4 c = search (same-says, names-show)
 
 returns-5 : tie.Need-returns-5
-returns-5 c = names-nothing _ (not-board (c .before .before .before .before .before .before .before .before .before)) (not-propose (c .before .before .before .before .before .before)) (not-steps (c .before .before .before)) (not-show c)
+returns-5 c = names-nothing _ (not-board (search)) (not-propose (search)) (not-steps (search)) (not-show c)
 
 pub form-named-spec : {M : Type 1} → statement M
 form-named-spec =
     tie.close
     (tie.spec
-    slice-aggregate-same
-    same-requires
+    (λ c. search needs)
+    (λ c κs. search needs)
     returns
-    slice-aggregate-same-2
-    same-requires-2
+    (λ c. search needs)
+    (λ c κs. search needs)
     returns-2
-    slice-aggregate-same-3
-    same-requires-3
+    (λ c. search needs)
+    (λ c κs. search needs)
     returns-3
-    slice-aggregate-same-4
-    same-requires-4
+    (λ c. search needs)
+    (λ c κs. search needs)
     returns-4
     returns-5)

@@ -4,11 +4,5 @@ use Rattle.player.proofs.Laws.Playing.{turned}
 use Rattle.player.proofs.line.turned_down.Statement.{statement}
 use Rattle.player.proofs.line.turned_down.Tie as tie
 
-refused-line-requires : tie.Need-refused-line-requires
-refused-line-requires c κs = search needs
-
-returns : tie.Need-returns
-returns c = turned _ _ _ (c .refused-line .ensures)
-
 pub turned-down-spec : {M : Type 1} → statement M
-turned-down-spec = tie.close (tie.spec refused-line-requires returns)
+turned-down-spec = tie.close (tie.spec (λ c κs. search needs) (λ c. turned _ _ _ (c .refused-line .ensures)))

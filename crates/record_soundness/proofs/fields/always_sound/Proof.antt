@@ -7,20 +7,8 @@ use Rattle.record_soundness.proofs.Laws.Clauses.{rest-laid}
 use Rattle.record_soundness.proofs.fields.always_sound.Statement.{statement}
 use Rattle.record_soundness.proofs.fields.always_sound.Tie as tie
 
-bounds-sound-requires : tie.Need-bounds-sound-requires
-bounds-sound-requires c κs = search needs
-
-returns : tie.Need-returns
-returns c = fail2 true _ _ _ _ refl (no _ _ (c .before .bounds-sound .ensures) (c .if1 .taken))
-
-flag-sound-requires : tie.Need-flag-sound-requires
-flag-sound-requires c κs = search needs
-
 returns-2 : tie.Need-returns-2
 returns-2 c = fail3 true _ _ _ _ refl (yes _ _ (c .before .before .before .bounds-sound .ensures) (c .before .before .if1 .left)) (no _ _ (c .before .flag-sound .ensures) (c .if2 .taken))
-
-idle-sound-requires : tie.Need-idle-sound-requires
-idle-sound-requires c κs = search needs
 
 returns-3 : tie.Need-returns-3
 returns-3 c = (c .idle-sound .ensures) ∙ pass true _ _ _ _ refl (yes _ _ (c .before .before .before .before .bounds-sound .ensures) (c .before .before .before .if1 .left)) (yes _ _ (c .before .before .flag-sound .ensures) (c .before .if2 .left)) (rest-laid (c .before .before .before .before .before .args .f))
@@ -29,9 +17,9 @@ pub always-sound-spec : {M : Type 1} → statement M
 always-sound-spec =
     tie.close
     (tie.spec
-    bounds-sound-requires
-    returns
-    flag-sound-requires
+    (λ c κs. search needs)
+    (λ c. fail2 true _ _ _ _ refl (no _ _ (c .before .bounds-sound .ensures) (c .if1 .taken)))
+    (λ c κs. search needs)
     returns-2
-    idle-sound-requires
+    (λ c κs. search needs)
     returns-3)

@@ -13,22 +13,13 @@ returns : tie.Need-returns
 unfolding phaseKnown positionInside islandInside bestInside layRecord
 returns c = fail2 true _ _ _ _ refl (lt-leb _ _ (c .if1 .taken))
 
-cast-position : tie.Need-cast-position
-cast-position c = search needs
-
 returns-2 : tie.Need-returns-2
 unfolding phaseKnown positionInside islandInside bestInside layRecord
 returns-2 c = fail3 true _ _ _ _ refl (le-leb _ _ (c .before .before .if1 .left)) (le-ltb _ _ (c .if2 .taken))
 
-cast-island : tie.Need-cast-island
-cast-island c = search needs
-
 returns-3 : tie.Need-returns-3
 unfolding phaseKnown positionInside islandInside bestInside layRecord
 returns-3 c = fail4 true _ _ _ _ refl (le-leb _ _ (c .before .before .before .before .if1 .left)) (lt-ltb _ _ (c .before .before .if2 .left)) (le-ltb _ _ (c .if3 .taken))
-
-cast-highest : tie.Need-cast-highest
-cast-highest c = search needs
 
 returns-4 : tie.Need-returns-4
 unfolding phaseKnown positionInside islandInside bestInside layRecord
@@ -37,4 +28,4 @@ returns-4 c = pass true _ _ _ _ refl (le-leb _ _ (c .before .before .before .bef
 pub bounds-sound-spec : {M : Type 1} → statement M
 bounds-sound-spec =
     tie.close
-    (tie.spec returns cast-position returns-2 cast-island returns-3 cast-highest returns-4)
+    (tie.spec returns (λ c. search needs) returns-2 (λ c. search needs) returns-3 (λ c. search needs) returns-4)

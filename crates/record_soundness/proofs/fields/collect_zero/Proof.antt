@@ -10,9 +10,6 @@ use Rattle.record_soundness.proofs.Laws.Clauses.{best-zero}
 use Rattle.record_soundness.proofs.fields.collect_zero.Statement.{statement}
 use Rattle.record_soundness.proofs.fields.collect_zero.Tie as tie
 
-is-collecting-requires : tie.Need-is-collecting-requires
-is-collecting-requires c κs = search needs
-
 returns : tie.Need-returns
 unfolding collectZero layRecord
 returns c = or-first _ _ (sym (c .before .is-collecting .ensures) ∙ (c .if1 .taken))
@@ -31,4 +28,4 @@ returns-4 c = best-zero (c .before .before .before .before .before .before .befo
 
 pub collect-zero-spec : {M : Type 1} → statement M
 collect-zero-spec =
-    tie.close (tie.spec is-collecting-requires returns returns-2 returns-3 returns-4)
+    tie.close (tie.spec (λ c κs. search needs) returns returns-2 returns-3 returns-4)

@@ -8,15 +8,9 @@ use Rattle.record_soundness.proofs.Laws.Chains.{or-first, or-last, or-s
 use Rattle.record_soundness.proofs.fields.flag_sound.Statement.{statement}
 use Rattle.record_soundness.proofs.fields.flag_sound.Tie as tie
 
-one-or-two-requires : tie.Need-one-or-two-requires
-one-or-two-requires c κs = search needs
-
 returns : tie.Need-returns
 unfolding flagKnown layRecord
 returns c = (c .one-or-two .ensures) ∙ cond-yes _ _ _ (sym (or-first _ _ (eq-eqb _ _ (c .before .if1 .taken))))
-
-one-or-two-requires-2 : tie.Need-one-or-two-requires-2
-one-or-two-requires-2 c κs = search needs
 
 returns-2 : tie.Need-returns-2
 unfolding flagKnown layRecord
@@ -28,4 +22,4 @@ returns-3 c = cond-no _ _ _ (sym (or-last _ _ (ne-eqb _ _ (c .before .before .be
 
 pub flag-sound-spec : {M : Type 1} → statement M
 flag-sound-spec =
-    tie.close (tie.spec one-or-two-requires returns one-or-two-requires-2 returns-2 returns-3)
+    tie.close (tie.spec (λ c κs. search needs) returns (λ c κs. search needs) returns-2 returns-3)

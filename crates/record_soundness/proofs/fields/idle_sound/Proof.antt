@@ -13,9 +13,6 @@ returns : tie.Need-returns
 unfolding idleZero
 returns c = implies-no _ _ (ne-eqb _ _ (c .if1 .taken))
 
-bytes-zero-requires : tie.Need-bytes-zero-requires
-bytes-zero-requires c κs = search needs
-
 returns-2 : tie.Need-returns-2
 returns-2 c = fail2 true _ _ _ _ refl (no _ _ (c .before .bytes-zero .ensures) (c .if2 .taken)) ∙ idle-form (c .before .before .before .before .args .f) (search needs) (search needs) (search needs) (c .before .before .if1 .left)
 
@@ -30,4 +27,4 @@ returns-5 c = pass true _ _ _ _ refl (yes _ _ (c .before .before .before .before
 
 pub idle-sound-spec : {M : Type 1} → statement M
 idle-sound-spec =
-    tie.close (tie.spec returns bytes-zero-requires returns-2 returns-3 returns-4 returns-5)
+    tie.close (tie.spec returns (λ c κs. search needs) returns-2 returns-3 returns-4 returns-5)

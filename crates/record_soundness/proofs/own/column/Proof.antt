@@ -7,14 +7,8 @@ use Rattle.model.specs.Layout.{readRegister}
 use Rattle.record_soundness.proofs.own.column.Statement.{statement}
 use Rattle.record_soundness.proofs.own.column.Tie as tie
 
-register-offset-requires : tie.Need-register-offset-requires
-register-offset-requires c κs = search needs
-
-register-at-requires : tie.Need-register-at-requires
-register-at-requires c κs = search needs
-
 returns : tie.Need-returns
 returns c = c .register-at .ensures ∙ ap (λ (x : ℕ). readRegister (part x 8 (c .before .before .before .args .s .now))) (c .before .register-offset .ensures)
 
 pub column-spec : {M : Type 1} → statement M
-column-spec = tie.close (tie.spec register-offset-requires register-at-requires returns)
+column-spec = tie.close (tie.spec (λ c κs. search needs) (λ c κs. search needs) returns)

@@ -8,12 +8,6 @@ use Rattle.record_soundness.proofs.Laws.Held.{same-bits, held-empty, he
 use Rattle.record_soundness.proofs.own.held.Statement.{statement}
 use Rattle.record_soundness.proofs.own.held.Tie as tie
 
-returns : tie.Need-returns
-returns c = held-empty _ _ _ _ (c .if1 .taken)
-
-same-flag-requires : tie.Need-same-flag-requires
-same-flag-requires c κs = search needs
-
 returns-2 : tie.Need-returns-2
 returns-2 c = fail3 true true _ _ _ refl refl (no _ _ (c .before .same-flag .ensures) (c .if2 .taken)) ∙ held-form (c .before .before .before .before .args .r) (c .before .before .before .before .args .flag) (c .before .before .before .before .args .island) (c .before .before .before .before .args .figure) (c .before .before .if1 .left)
 
@@ -24,4 +18,4 @@ returns-4 : tie.Need-returns-4
 returns-4 c = same-bits (c .before .before .before .before .before .before .before .before .args .r .figure) (c .before .before .before .before .before .before .before .before .args .figure) (search needs) (search needs) ∙ pass true true _ _ _ refl refl (yes _ _ (c .before .before .before .before .before .same-flag .ensures) (c .before .before .before .before .if2 .left)) (eq-eqb _ _ (c .before .before .if3 .left)) ∙ held-form (c .before .before .before .before .before .before .before .before .args .r) (c .before .before .before .before .before .before .before .before .args .flag) (c .before .before .before .before .before .before .before .before .args .island) (c .before .before .before .before .before .before .before .before .args .figure) (c .before .before .before .before .before .before .if1 .left)
 
 pub held-spec : {M : Type 1} → statement M
-held-spec = tie.close (tie.spec returns same-flag-requires returns-2 returns-3 returns-4)
+held-spec = tie.close (tie.spec (λ c. held-empty _ _ _ _ (c .if1 .taken)) (λ c κs. search needs) returns-2 returns-3 returns-4)

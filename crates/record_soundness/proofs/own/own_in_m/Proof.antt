@@ -20,41 +20,29 @@ own-register c =
     written-m _ _ _ (start c .args .f) _ _ (sfits-of (c .before .struct-told .given .1 .1 .1 .1 .1 .1 .1 .0 .1))
     (c .before .before .column .ensures) (c .held .ensures)
 
-column-requires : tie.Need-column-requires
-column-requires c κs = search needs
-
-held-requires : tie.Need-held-requires
-held-requires c κs = search needs
-
-returns : tie.Need-returns
-returns c = fail4 true true true _ _ refl refl refl (no _ _ (own-register (c .before)) (c .if1 .taken))
-
-cast-position : tie.Need-cast-position
-cast-position c = search needs
-
 returns-2 : tie.Need-returns-2
-returns-2 c = before-own _ _ _ (c .if2 .taken) ∙ pass true true true _ _ refl refl refl (yes _ _ (own-register (c .before .before .before)) (c .before .before .if1 .left))
+returns-2 c = before-own _ _ _ (c .if2 .taken) ∙ pass true true true _ _ refl refl refl (yes _ _ (own-register (search)) (search))
 
 returns-3 : tie.Need-returns-3
-returns-3 c = nothing-seen _ _ _ (c .before .before .if2 .left) (c .if3 .taken) ∙ pass true true true _ _ refl refl refl (yes _ _ (own-register (c .before .before .before .before .before)) (c .before .before .before .before .if1 .left))
+returns-3 c = nothing-seen _ _ _ (search) (c .if3 .taken) ∙ pass true true true _ _ refl refl refl (yes _ _ (own-register (search)) (search))
 
 returns-4 : tie.Need-returns-4
-returns-4 c = island-lower _ _ (c .before .before .before .before .if2 .left) (c .before .before .if3 .left) (c .if4 .taken) ∙ pass true true true _ _ refl refl refl (yes _ _ (own-register (c .before .before .before .before .before .before .before)) (c .before .before .before .before .before .before .if1 .left))
+returns-4 c = island-lower _ _ (search) (search) (c .if4 .taken) ∙ pass true true true _ _ refl refl refl (yes _ _ (own-register (search)) (search))
 
 returns-5 : tie.Need-returns-5
-returns-5 c = island-higher _ _ (c .before .before .before .before .before .before .if2 .left) (c .before .before .before .before .if3 .left) (c .if5 .taken) ∙ pass true true true _ _ refl refl refl (yes _ _ (own-register (c .before .before .before .before .before .before .before .before .before)) (c .before .before .before .before .before .before .before .before .if1 .left))
+returns-5 c = island-higher _ _ (search) (search) (c .if5 .taken) ∙ pass true true true _ _ refl refl refl (yes _ _ (own-register (search)) (search))
 
 returns-6 : tie.Need-returns-6
-returns-6 c = island-same _ _ (c .before .before .before .before .before .before .before .before .if2 .left) (c .before .before .before .before .before .before .if3 .left) (c .before .before .before .before .if4 .left) (c .before .before .if5 .left) (search needs) (search needs) ∙ pass true true true _ _ refl refl refl (yes _ _ (own-register (c .before .before .before .before .before .before .before .before .before .before .before)) (c .before .before .before .before .before .before .before .before .before .before .if1 .left))
+returns-6 c = island-same _ _ (search) (search) (search) (search) (search needs) (search needs) ∙ pass true true true _ _ refl refl refl (yes _ _ (own-register (search)) (search))
 
 pub own-in-m-spec : {M : Type 1} → statement M
 own-in-m-spec =
     tie.close
     (tie.spec
-    column-requires
-    held-requires
-    returns
-    cast-position
+    (λ c κs. search needs)
+    (λ c κs. search needs)
+    (λ c. fail4 true true true _ _ refl refl refl (no _ _ (own-register (search)) (c .if1 .taken)))
+    (λ c. search needs)
     returns-2
     returns-3
     returns-4

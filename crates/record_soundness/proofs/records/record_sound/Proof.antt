@@ -10,29 +10,11 @@ use Rattle.record_soundness.proofs.records.record_sound.Tie as tie
 placed : (c : tie.Start) → Placed (c .args .n) (c .args .k) (c .args .i) (c .args .at) (c .args .s .now)
 placed c = record { len = c .pre .0; station = c .pre .3; place = c .pre .4 }
 
-add-zero-pair : tie.Need-add-zero-pair
-add-zero-pair c = omega (arith, record-place (placed (c .before)))
-
-zero-pair-requires : tie.Need-zero-pair-requires
-zero-pair-requires c κs = omega (arith, record-place (placed (c .before)))
-
 returns : tie.Need-returns
 returns c = pair-fails (placed (c .before .before .before)) (no _ _ (c .before .zero-pair .ensures) (c .if1 .taken))
 
-add-zero-word : tie.Need-add-zero-word
-add-zero-word c = omega (arith, record-place (placed (c .before .before .before)))
-
-zero-word-requires : tie.Need-zero-word-requires
-zero-word-requires c κs = omega (arith, record-place (placed (c .before .before .before)))
-
 returns-2 : tie.Need-returns-2
 returns-2 c = word-fails (placed (c .before .before .before .before .before)) (no _ _ (c .before .zero-word .ensures) (c .if2 .taken))
-
-record-at-requires : tie.Need-record-at-requires
-record-at-requires c κs = record-place (placed (c .before .before .before .before .before))
-
-fields-sound-requires : tie.Need-fields-sound-requires
-fields-sound-requires c κs = search needs
 
 returns-3 : tie.Need-returns-3
 returns-3 c = fields-fail (placed (c .before .before .before .before .before .before .before .before)) (c .before .before .before .before .before .before .before .shared-slice-known .given) _ (c .before .before .record-at .ensures) (yes _ _ (c .before .before .before .before .before .before .zero-pair .ensures) (c .before .before .before .before .before .if1 .left)) (yes _ _ (c .before .before .before .before .zero-word .ensures) (c .before .before .before .if2 .left)) (no _ _ (c .before .fields-sound .ensures) (c .if3 .taken))
@@ -47,14 +29,14 @@ pub record-sound-spec : {M : Type 1} → statement M
 record-sound-spec =
     tie.close
     (tie.spec
-    add-zero-pair
-    zero-pair-requires
+    (λ c. omega (arith, record-place (placed (search))))
+    (λ c κs. omega (arith, record-place (placed (search))))
     returns
-    add-zero-word
-    zero-word-requires
+    (λ c. omega (arith, record-place (placed (search))))
+    (λ c κs. omega (arith, record-place (placed (search))))
     returns-2
-    record-at-requires
-    fields-sound-requires
+    (λ c κs. record-place (placed (search)))
+    (λ c κs. search needs)
     returns-3
     own-sound-requires
     returns-4)

@@ -23,32 +23,8 @@ abbrev μ-loop : tie.MeasureT-loop
 placed : (c : tie.In-loop Inv-loop μ-loop) → Placed (c .before .before .before .before .args .n) (c .before .before .before .before .args .k) (c .before .loop .i) (c .before .loop .at) (c .before .before .before .before .args .s .now)
 placed c = record { len = c .before .before .before .before .pre .0; station = c .loop-test .taken; place = c .before .loop .inv .1 }
 
-record-offset-requires : tie.Need-record-offset-requires Inv-loop μ-loop
-record-offset-requires c κs = search needs
-
-loop-holds : tie.Need-loop-holds Inv-loop μ-loop
-loop-holds c = (search needs, c .record-offset .ensures, every-none _)
-
-record-sound-requires : tie.Need-record-sound-requires Inv-loop μ-loop
-record-sound-requires c κs = ((c .before .before .before .before .pre) .0, (c .before .before .before .before .pre) .1, (c .before .before .before .before .pre) .2, (c .loop-test .taken), (c .before .loop .inv) .1)
-
-returns : tie.Need-returns Inv-loop μ-loop
-returns c = every-fails _ _ _ (c .before .before .loop-test .taken) (no _ _ (c .before .record-sound .ensures) (c .if1 .taken))
-
-add-at : tie.Need-add-at Inv-loop μ-loop
-add-at c = omega (arith, record-place (placed (c .before .before)))
-
-add-i : tie.Need-add-i Inv-loop μ-loop
-add-i c = search needs
-
-loop-less : tie.Need-loop-less Inv-loop μ-loop
-loop-less c = search needs
-
 loop-again : tie.Need-loop-again Inv-loop μ-loop
 loop-again c = (omega arith, ap (λ (x : ℕ). x + 24) ((c .before .before .before .loop .inv) .1) ∙ record-next (c .before .before .before .before .before .before .args .n) (c .before .before .before .before .before .before .args .k) (c .before .before .before .loop .i), every-more _ _ ((c .before .before .before .loop .inv) .2) (yes _ _ (c .before .record-sound .ensures) (c .if1 .left)))
-
-returns-2 : tie.Need-returns-2 Inv-loop μ-loop
-returns-2 c = every-end _ _ _ ((c .before .loop .inv) .0) (c .loop-test .left) ((c .before .loop .inv) .2)
 
 pub records-sound-spec : {M : Type 1} → statement M
 records-sound-spec =
@@ -56,12 +32,12 @@ records-sound-spec =
     (tie.spec
     Inv-loop
     μ-loop
-    record-offset-requires
-    loop-holds
-    record-sound-requires
-    returns
-    add-at
-    add-i
-    loop-less
+    (λ c κs. search needs)
+    (λ c. (search needs, c .record-offset .ensures, every-none _))
+    (λ c κs. search needs)
+    (λ c. search (no, every-fails))
+    (λ c. omega (arith, record-place (placed (search))))
+    (λ c. search needs)
+    (λ c. search needs)
     loop-again
-    returns-2)
+    (λ c. search every-end))

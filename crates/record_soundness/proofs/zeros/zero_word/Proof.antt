@@ -4,11 +4,5 @@ use Rattle.record_soundness.proofs.Laws.Zeros.{word-zero}
 use Rattle.record_soundness.proofs.zeros.zero_word.Statement.{statement}
 use Rattle.record_soundness.proofs.zeros.zero_word.Tie as tie
 
-word-at-requires : tie.Need-word-at-requires
-word-at-requires c κs = search needs
-
-returns : tie.Need-returns
-returns c = word-zero _ _ (c .word-at .ensures)
-
 pub zero-word-spec : {M : Type 1} → statement M
-zero-word-spec = tie.close (tie.spec word-at-requires returns)
+zero-word-spec = tie.close (tie.spec (λ c κs. search needs) (λ c. word-zero _ _ (c .word-at .ensures)))

@@ -5,14 +5,5 @@ use Rattle.sheet.proofs.Laws.Depth.{shows, shows-not}
 use Rattle.sheet.proofs.form.show_form.Statement.{statement}
 use Rattle.sheet.proofs.form.show_form.Tie as tie
 
-closes-requires : tie.Need-closes-requires
-closes-requires c κs = search needs
-
-returns : tie.Need-returns
-returns c = shows _ (sym (c .before .closes .ensures) ∙ c .if1 .taken)
-
-returns-2 : tie.Need-returns-2
-returns-2 c = shows-not _ (sym (c .before .closes .ensures) ∙ c .if1 .left)
-
 pub show-form-spec : {M : Type 1} → statement M
-show-form-spec = tie.close (tie.spec closes-requires returns returns-2)
+show-form-spec = tie.close (tie.spec (λ c κs. search needs) (λ c. shows _ (sym (search) ∙ c .if1 .taken)) (λ c. shows-not _ (sym (search) ∙ c .if1 .left)))

@@ -27,41 +27,10 @@ closes : (c : tie.Joined2 Inv-loop μ-loop)
     → c .if2 .closed ≡ c .before .before .before .before .loop .closed + one 41 (getD (c .before .before .before .before .before .args .line .now) (c .before .before .before .before .loop .i) 0)
 closes c = ⊎-elim (λ w. one-more _ _ _ _ (w .0 .taken) (w .1)) (λ w. no-more _ _ _ _ (w .0 .left) (w .1)) (c .if2 .came)
 
-loop-holds : tie.Need-loop-holds Inv-loop μ-loop
-loop-holds c = nothing-passed _
-
-shared-slice-read-byte : tie.Need-shared-slice-read-byte Inv-loop μ-loop
-shared-slice-read-byte c = search needs
-
-add-opened : tie.Need-add-opened Inv-loop μ-loop
-add-opened c = search needs
-
-add-closed : tie.Need-add-closed Inv-loop μ-loop
-add-closed c = omega (arith, c .before .before .before .before .loop .inv .closed, c .before .before .before .before .before .pre)
-
 add-if3 : tie.Need-add-if3 Inv-loop μ-loop
 add-if3 c =
     let few = still-closed _ _ _ _ _ _ (c .before .before .before .before .before .loop .inv) (c .before .before .before .before .loop-test .taken) (opens (c .before .before)) (closes (c .before)) in
     omega (arith, few, c .before .before .before .before .loop-test .taken, c .before .before .before .before .before .before .pre)
-
-returns : tie.Need-returns Inv-loop μ-loop
-returns c =
-    exceeds _ _ _ _ _ _ (c .before .before .before .before .before .before .loop .inv) (c .before .before .before .before .before .loop-test .taken) (opens (c .before .before .before)) (closes (c .before .before))
-    (c .if3 .taken)
-
-add-i : tie.Need-add-i Inv-loop μ-loop
-add-i c = search needs
-
-loop-less : tie.Need-loop-less Inv-loop μ-loop
-loop-less c = search needs
-
-loop-again : tie.Need-loop-again Inv-loop μ-loop
-loop-again c =
-    passes _ _ _ _ _ _ (c .before .before .before .before .before .before .loop .inv) (c .before .before .before .before .before .loop-test .taken) (opens (c .before .before .before)) (closes (c .before .before))
-    (c .if3 .left)
-
-returns-2 : tie.Need-returns-2 Inv-loop μ-loop
-returns-2 c = all-passed _ _ _ _ (c .before .loop .inv) (c .loop-test .left)
 
 pub too-deep-spec : {M : Type 1} → statement M
 too-deep-spec =
@@ -69,13 +38,13 @@ too-deep-spec =
     (tie.spec
     Inv-loop
     μ-loop
-    loop-holds
-    shared-slice-read-byte
-    add-opened
-    add-closed
+    (λ c. nothing-passed _)
+    (λ c. search needs)
+    (λ c. search needs)
+    (λ c. search needs)
     add-if3
-    returns
-    add-i
-    loop-less
-    loop-again
-    returns-2)
+    (λ c. exceeds _ _ _ _ _ _ (search) (search) (opens (search)) (closes (search)) (c .if3 .taken))
+    (λ c. search needs)
+    (λ c. search needs)
+    (λ c. passes _ _ _ _ _ _ (search) (search) (opens (search)) (closes (search)) (c .if3 .left))
+    (λ c. search all-passed))

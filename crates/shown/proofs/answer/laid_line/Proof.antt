@@ -2,31 +2,20 @@
 use mathlib.Core.Path.{refl}
 use borrow.Author.Needs.{needs}
 use Rattle.model.specs.Show.{text, textFrom}
-use Rattle.shown.specs.Texts.{twoNumbers}
 use Rattle.shown.proofs.Rooms.{room-first, room-next}
 use Rattle.shown.proofs.Answers.{laid-room, holds-laid}
 use Rattle.shown.proofs.answer.laid_line.Statement.{statement}
 use Rattle.shown.proofs.answer.laid_line.Tie as tie
 
-empty-requires : tie.Need-empty-requires
-empty-requires c κs = search needs
-
-slice-aggregate-put-word : tie.Need-slice-aggregate-put-word
-slice-aggregate-put-word c = refl
-
-put-word-requires : tie.Need-put-word-requires
-unfolding text textFrom
-put-word-requires c κs = room-first (text "(laid ") (twoNumbers _ _) (laid-room (c .before .empty .ensures) (c .before .before .args .n) (c .before .before .args .k))
-
 write-two-requires : tie.Need-write-two-requires
 unfolding text textFrom
-write-two-requires c κs = room-next (text "(laid ") (twoNumbers _ _) (laid-room (c .before .before .before .before .empty .ensures) _ _) (c .before .before .put-word .ensures)
+write-two-requires c κs = search (room-next, laid-room)
 
 returns : tie.Need-returns
 unfolding text textFrom
-returns c = holds-laid (c .before .before .before .before .before .empty .ensures) _ _ (c .before .before .before .put-word .ensures) (c .write-two .ensures)
+returns c = search holds-laid
 
 pub laid-line-spec : {M : Type 1} → statement M
 laid-line-spec =
     tie.close
-    (tie.spec empty-requires slice-aggregate-put-word put-word-requires write-two-requires returns)
+    (tie.spec (λ c κs. search needs) (λ c. refl) (λ c κs. search (room-first, laid-room, needs)) write-two-requires returns)

@@ -1,21 +1,10 @@
 -- `answer::proposed_line` meets its contract: the pieces in order are a law of Answers.
 use mathlib.Core.Path.{refl}
-use mir.Facts.{toZ-ofZ}
 use borrow.Author.Needs.{needs}
 use Rattle.model.specs.Show.{text, textFrom}
 use Rattle.shown.proofs.Answers.{proposed-rooms, holds-proposed}
 use Rattle.shown.proofs.answer.proposed_line.Statement.{statement}
 use Rattle.shown.proofs.answer.proposed_line.Tie as tie
-
-empty-requires : tie.Need-empty-requires
-empty-requires c κs = search needs
-
-slice-aggregate-put-word : tie.Need-slice-aggregate-put-word
-slice-aggregate-put-word c = refl
-
-put-word-requires : tie.Need-put-word-requires
-unfolding text textFrom
-put-word-requires c κs = proposed-rooms (c .before .empty .ensures) (c .before .before .args .station) (c .before .before .args .figure) .first
 
 write-decimal-requires : tie.Need-write-decimal-requires
 unfolding text textFrom
@@ -36,17 +25,15 @@ write-byte-requires-2 c κs =
 
 returns : tie.Need-returns
 unfolding text textFrom
-returns c =
-    holds-proposed (c .before .before .before .before .before .before .before .before .before .before .before .empty .ensures) _ _ _ (c .before .before .before .before .before .before .before .before .before .put-word .ensures) (c .before .before .before .before .before .before .write-decimal .ensures) (c .before .before .before .before .write-byte .ensures) (c .before .before .write-figure .ensures) (c .write-byte2 .ensures)
-    (toZ-ofZ (c .before .before .before .before .before .before .before .before .before .before .before .before .fits .figure))
+returns c = search (holds-proposed, needs)
 
 pub proposed-line-spec : {M : Type 1} → statement M
 proposed-line-spec =
     tie.close
     (tie.spec
-    empty-requires
-    slice-aggregate-put-word
-    put-word-requires
+    (λ c κs. search needs)
+    (λ c. refl)
+    (λ c κs. search (proposed-rooms, needs))
     write-decimal-requires
     write-byte-requires
     write-figure-requires

@@ -6,16 +6,6 @@ use Rattle.shown.proofs.Answers.{refused-rooms, holds-refused}
 use Rattle.shown.proofs.answer.refused_line.Statement.{statement}
 use Rattle.shown.proofs.answer.refused_line.Tie as tie
 
-empty-requires : tie.Need-empty-requires
-empty-requires c κs = search needs
-
-slice-aggregate-put-word : tie.Need-slice-aggregate-put-word
-slice-aggregate-put-word c = refl
-
-put-word-requires : tie.Need-put-word-requires
-unfolding text textFrom
-put-word-requires c κs = refused-rooms (c .before .empty .ensures) (c .before .before .args .number) .first
-
 write-decimal-requires : tie.Need-write-decimal-requires
 unfolding text textFrom
 write-decimal-requires c κs = refused-rooms (c .before .before .before .before .empty .ensures) _ .second (c .before .before .put-word .ensures)
@@ -26,15 +16,15 @@ write-byte-requires c κs = refused-rooms (c .before .before .before .before .be
 
 returns : tie.Need-returns
 unfolding text textFrom
-returns c = holds-refused (c .before .before .before .before .before .before .before .empty .ensures) _ (c .before .before .before .before .before .put-word .ensures) (c .before .before .write-decimal .ensures) (c .write-byte .ensures)
+returns c = search holds-refused
 
 pub refused-line-spec : {M : Type 1} → statement M
 refused-line-spec =
     tie.close
     (tie.spec
-    empty-requires
-    slice-aggregate-put-word
-    put-word-requires
+    (λ c κs. search needs)
+    (λ c. refl)
+    (λ c κs. search (refused-rooms, needs))
     write-decimal-requires
     write-byte-requires
     returns)

@@ -4,9 +4,6 @@ use Rattle.shown.proofs.Answers.{two-rooms, puts-two}
 use Rattle.shown.proofs.answer.write_two.Statement.{statement}
 use Rattle.shown.proofs.answer.write_two.Tie as tie
 
-write-decimal-requires : tie.Need-write-decimal-requires
-write-decimal-requires c κs = two-rooms (c .before .args .a) (c .before .args .b) (c .before .pre) .first
-
 write-byte-requires : tie.Need-write-byte-requires
 unfolding text textFrom
 write-byte-requires c κs = two-rooms (c .before .before .before .args .a) (c .before .before .before .args .b) (c .before .before .before .pre) .second (c .before .write-decimal .ensures)
@@ -21,13 +18,13 @@ write-byte-requires-2 c κs = two-rooms (c .before .before .before .before .befo
 
 returns : tie.Need-returns
 unfolding text textFrom
-returns c = puts-two _ _ (c .before .before .before .before .before .before .write-decimal .ensures) (c .before .before .before .before .write-byte .ensures) (c .before .before .write-decimal2 .ensures) (c .write-byte2 .ensures)
+returns c = search puts-two
 
 pub write-two-spec : {M : Type 1} → statement M
 write-two-spec =
     tie.close
     (tie.spec
-    write-decimal-requires
+    (λ c κs. two-rooms (c .before .args .a) (c .before .args .b) (c .before .pre) .first)
     write-byte-requires
     write-decimal-requires-2
     write-byte-requires-2

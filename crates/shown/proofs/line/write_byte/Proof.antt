@@ -5,14 +5,5 @@ use Rattle.shown.proofs.Putting.{puts-byte}
 use Rattle.shown.proofs.line.write_byte.Statement.{statement}
 use Rattle.shown.proofs.line.write_byte.Tie as tie
 
-element-write-bytes : tie.Need-element-write-bytes
-element-write-bytes c = search needs
-
-add-result : tie.Need-add-result
-add-result c = search needs
-
-returns : tie.Need-returns
-returns c = puts-byte (lineOf _ _) _ (c .pre)
-
 pub write-byte-spec : {M : Type 1} → statement M
-write-byte-spec = tie.close (tie.spec element-write-bytes add-result returns)
+write-byte-spec = tie.close (tie.spec (λ c. search needs) (λ c. search needs) (λ c. puts-byte (lineOf _ _) _ (c .pre)))

@@ -18,25 +18,10 @@ Inv-loop x bytes₀ from₀ rest₀ bytes from rest =
 abbrev μ-loop : tie.MeasureT-loop
 μ-loop x bytes₀ from₀ rest₀ bytes from rest = rest
 
-loop-holds : tie.Need-loop-holds Inv-loop μ-loop
-loop-holds c = (refl, length-any (c .args .x), omega arith, omega arith, append-nil _)
-
-cast-bytes : tie.Need-cast-bytes Inv-loop μ-loop
-cast-bytes c = search needs
-
-add-bytes : tie.Need-add-bytes Inv-loop μ-loop
-add-bytes c = search needs
-
-array-write-bytes : tie.Need-array-write-bytes Inv-loop μ-loop
-array-write-bytes c = search needs
-
 sub-from : tie.Need-sub-from Inv-loop μ-loop
 sub-from c =
     let rest = c .before .loop .rest in
     omega (arith, length-more rest (omega arith) (omega arith), length-some (rest / 10) (omega arith))
-
-loop-less : tie.Need-loop-less Inv-loop μ-loop
-loop-less c = search needs
 
 loop-again : tie.Need-loop-again Inv-loop μ-loop
 loop-again c =
@@ -51,15 +36,6 @@ loop-again c =
       ap (λ (n : ℕ). decimal (l .rest / 10) ++ drop n bytes) room ∙ digit-more (l .bytes) (l .from) (omega arith) (l .rest) (omega arith) (omega arith) ∙ l .inv .4,
     )
 
-cast-bytes-2 : tie.Need-cast-bytes-2 Inv-loop μ-loop
-cast-bytes-2 c = search needs
-
-add-bytes-2 : tie.Need-add-bytes-2 Inv-loop μ-loop
-add-bytes-2 c = search needs
-
-array-write-bytes-2 : tie.Need-array-write-bytes-2 Inv-loop μ-loop
-array-write-bytes-2 c = search needs
-
 returns : tie.Need-returns Inv-loop μ-loop
 returns c =
     let l = c .before .loop in
@@ -71,14 +47,14 @@ digits-of-spec =
     (tie.spec
     Inv-loop
     μ-loop
-    loop-holds
-    cast-bytes
-    add-bytes
-    array-write-bytes
+    (λ c. (refl, length-any (c .args .x), omega arith, omega arith, append-nil _))
+    (λ c. search needs)
+    (λ c. search needs)
+    (λ c. search needs)
     sub-from
-    loop-less
+    (λ c. search needs)
     loop-again
-    cast-bytes-2
-    add-bytes-2
-    array-write-bytes-2
+    (λ c. search needs)
+    (λ c. search needs)
+    (λ c. search needs)
     returns)

@@ -10,13 +10,7 @@ use Rattle.shown.proofs.number.write_figure.Tie as tie
 
 write-byte-requires : tie.Need-write-byte-requires
 unfolding text textFrom
-write-byte-requires c κs = room-first (text "-") (decimal _) (room-same (below (c .before .before .args .v) (c .before .before .fits .v) (c .before .if1 .taken) .printed) (c .before .before .pre))
-
-cast-write-decimal : tie.Need-cast-write-decimal
-cast-write-decimal c = below (c .before .before .before .before .args .v) (c .before .before .before .before .fits .v) (c .before .before .before .if1 .taken) .cast
-
-add-write-decimal : tie.Need-add-write-decimal
-add-write-decimal c = record { fits = omega (arith, below (c .before .before .before .before .args .v) (c .before .before .before .before .fits .v) (c .before .before .before .if1 .taken) .small) }
+write-byte-requires c κs = room-first (text "-") (decimal _) (room-same (below (search) (search) (search) .printed) (search))
 
 write-decimal-requires : tie.Need-write-decimal-requires
 unfolding text textFrom
@@ -28,24 +22,15 @@ unfolding text textFrom
 returns c =
     puts-same (sym (below (c .before .before .before .before .before .args .v) (c .before .before .before .before .before .fits .v) (c .before .before .before .before .if1 .taken) .printed)) (puts-then (c .before .before .write-byte .ensures) (c .write-decimal .ensures))
 
-cast-write-decimal-2 : tie.Need-cast-write-decimal-2
-cast-write-decimal-2 c = plain (c .before .before .args .v) (c .before .before .fits .v) (c .before .if1 .left) .cast
-
-write-decimal-requires-2 : tie.Need-write-decimal-requires-2
-write-decimal-requires-2 c κs = room-same (plain (c .before .before .args .v) (c .before .before .fits .v) (c .before .if1 .left) .printed) (c .before .before .pre)
-
-returns-2 : tie.Need-returns-2
-returns-2 c = puts-same (sym (plain (c .before .before .before .args .v) (c .before .before .before .fits .v) (c .before .before .if1 .left) .printed)) (c .write-decimal2 .ensures)
-
 pub write-figure-spec : {M : Type 1} → statement M
 write-figure-spec =
     tie.close
     (tie.spec
     write-byte-requires
-    cast-write-decimal
-    add-write-decimal
+    (λ c. below (search) (search) (search) .cast)
+    (λ c. record { fits = omega (arith, below (search) (search) (search) .small) })
     write-decimal-requires
     returns
-    cast-write-decimal-2
-    write-decimal-requires-2
-    returns-2)
+    (λ c. plain (search) (search) (search) .cast)
+    (λ c κs. room-same (plain (search) (search) (search) .printed) (search))
+    (λ c. puts-same (sym (plain (search) (search) (search) .printed)) (c .write-decimal2 .ensures)))

@@ -9,44 +9,17 @@ use Rattle.shown.proofs.Statuses.{idle-text, going-text, decided-text, 
 use Rattle.shown.proofs.status.write_phase.Statement.{statement}
 use Rattle.shown.proofs.status.write_phase.Tie as tie
 
-standing-of-requires : tie.Need-standing-of-requires
-standing-of-requires c κs = search needs
-
-enum-told : tie.Need-enum-told
-enum-told c = search needs
-
-slice-aggregate-write-word : tie.Need-slice-aggregate-write-word
-slice-aggregate-write-word c = search needs
-
 write-word-requires : tie.Need-write-word-requires
 unfolding text textFrom
-write-word-requires c κs = room-same (idle-text (c .before .before .before .before .before .args .station) _ (c .before .before .before .before .standing-of .ensures) (c .before .before .enum-told .given .1)) (c .before .before .before .before .before .pre)
-
-enum-known-stands : tie.Need-enum-known-stands
-enum-known-stands c = search needs
-
-slice-aggregate-write-standing : tie.Need-slice-aggregate-write-standing
-slice-aggregate-write-standing c = search needs
+write-word-requires c κs = search (room-same, idle-text)
 
 write-standing-requires : tie.Need-write-standing-requires
 unfolding text textFrom
 write-standing-requires c κs = room-as _ _ _ _ _ (going-text (c .before .before .before .before .before .before .args .station) _ (c .before .before .before .before .before .standing-of .ensures) _ _ (c .before .before .before .stands .given .1)) (toZ-ofZ (search needs)) _ refl (c .before .before .before .before .before .before .pre)
 
-enum-known-stands-2 : tie.Need-enum-known-stands-2
-enum-known-stands-2 c = search needs
-
-slice-aggregate-write-standing-2 : tie.Need-slice-aggregate-write-standing-2
-slice-aggregate-write-standing-2 c = search needs
-
 write-standing-requires-2 : tie.Need-write-standing-requires-2
 unfolding text textFrom
 write-standing-requires-2 c κs = room-as _ _ _ _ _ (decided-text (c .before .before .before .before .before .before .args .station) _ (c .before .before .before .before .before .standing-of .ensures) _ _ (c .before .before .before .stands2 .given .1)) (toZ-ofZ (search needs)) _ refl (c .before .before .before .before .before .before .pre)
-
-enum-known-stands-3 : tie.Need-enum-known-stands-3
-enum-known-stands-3 c = search needs
-
-slice-aggregate-write-standing-3 : tie.Need-slice-aggregate-write-standing-3
-slice-aggregate-write-standing-3 c = search needs
 
 write-standing-requires-3 : tie.Need-write-standing-requires-3
 unfolding text textFrom
@@ -58,32 +31,32 @@ returns c = puts-same (sym (idle-text _ _ (c .before .before .before .before .be
 
 returns-2 : tie.Need-returns-2
 unfolding text textFrom
-returns-2 c = puts-as _ _ _ _ _ (going-text (c .before .before .before .before .before .before .before .args .station) _ (c .before .before .before .before .before .before .standing-of .ensures) _ _ (c .before .before .before .before .stands .given .1)) (toZ-ofZ (search needs)) (c .write-standing .ensures)
+returns-2 c = search (going-text, puts-as, needs)
 
 returns-3 : tie.Need-returns-3
 unfolding text textFrom
-returns-3 c = puts-as _ _ _ _ _ (decided-text (c .before .before .before .before .before .before .before .args .station) _ (c .before .before .before .before .before .before .standing-of .ensures) _ _ (c .before .before .before .before .stands2 .given .1)) (toZ-ofZ (search needs)) (c .write-standing2 .ensures)
+returns-3 c = search (decided-text, puts-as, needs)
 
 returns-4 : tie.Need-returns-4
 unfolding text textFrom
-returns-4 c = puts-as _ _ _ _ _ (spent-text (c .before .before .before .before .before .before .before .args .station) _ (c .before .before .before .before .before .before .standing-of .ensures) _ _ (c .before .before .before .before .stands3 .given .1)) (toZ-ofZ (search needs)) (c .write-standing3 .ensures)
+returns-4 c = search (spent-text, puts-as, needs)
 
 pub write-phase-spec : {M : Type 1} → statement M
 write-phase-spec =
     tie.close
     (tie.spec
-    standing-of-requires
-    enum-told
-    slice-aggregate-write-word
+    (λ c κs. search needs)
+    (λ c. search needs)
+    (λ c. search needs)
     write-word-requires
-    enum-known-stands
-    slice-aggregate-write-standing
+    (λ c. search needs)
+    (λ c. search needs)
     write-standing-requires
-    enum-known-stands-2
-    slice-aggregate-write-standing-2
+    (λ c. search needs)
+    (λ c. search needs)
     write-standing-requires-2
-    enum-known-stands-3
-    slice-aggregate-write-standing-3
+    (λ c. search needs)
+    (λ c. search needs)
     write-standing-requires-3
     returns
     returns-2

@@ -6,9 +6,6 @@ use Rattle.shown.proofs.Statuses.{status-rooms, puts-status}
 use Rattle.shown.proofs.status.write_status.Statement.{statement}
 use Rattle.shown.proofs.status.write_status.Tie as tie
 
-slice-aggregate-write-word : tie.Need-slice-aggregate-write-word
-slice-aggregate-write-word c = refl
-
 write-word-requires : tie.Need-write-word-requires
 unfolding text textFrom
 write-word-requires c κs = status-rooms (c .before .before .args .i) (recordValue (c .before .before .args .station)) (c .before .before .pre) .first
@@ -39,7 +36,7 @@ pub write-status-spec : {M : Type 1} → statement M
 write-status-spec =
     tie.close
     (tie.spec
-    slice-aggregate-write-word
+    (λ c. refl)
     write-word-requires
     write-decimal-requires
     write-byte-requires

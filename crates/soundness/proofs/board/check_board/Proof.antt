@@ -12,43 +12,25 @@ returns : tie.Need-returns
 unfolding verdict
 returns c = refused7 _ (c .if1 .taken)
 
-shared-slice-read-n : tie.Need-shared-slice-read-n
-shared-slice-read-n c = search needs
-
-cast-n : tie.Need-cast-n
-cast-n c = omega (arith, (c .shared-slice-known2 .given) 0)
-
 returns-2 : tie.Need-returns-2
 unfolding verdict
-returns-2 c = refused8-low _ (c .before .before .if1 .left) (c .if2 .taken)
+returns-2 c = search refused8-low
 
 returns-3 : tie.Need-returns-3
 unfolding verdict
-returns-3 c = refused8-high _ (c .before .before .before .if1 .left) (c .if3 .taken)
-
-shared-slice-read-k : tie.Need-shared-slice-read-k
-shared-slice-read-k c = search needs
-
-cast-k : tie.Need-cast-k
-cast-k c = omega (arith, (c .shared-slice-known3 .given) 1)
+returns-3 c = search refused8-high
 
 returns-4 : tie.Need-returns-4
 unfolding verdict
-returns-4 c = refused9-low _ (c .before .before .before .before .before .if1 .left) (c .before .before .before .if2 .left) (c .before .before .if3 .left) (c .if4 .taken)
+returns-4 c = search refused9-low
 
 returns-5 : tie.Need-returns-5
 unfolding verdict
-returns-5 c = refused9-high _ (c .before .before .before .before .before .before .if1 .left) (c .before .before .before .before .if2 .left) (c .before .before .before .if3 .left) (c .if5 .taken)
-
-board-length-requires : tie.Need-board-length-requires
-board-length-requires c κs = search needs
+returns-5 c = search refused9-high
 
 returns-6 : tie.Need-returns-6
 unfolding verdict
-returns-6 c = refused10 _ (c .before .before .before .before .before .before .before .before .if1 .left) (c .before .before .before .before .before .before .if2 .left) (c .before .before .before .before .before .if3 .left) (c .before .before .before .if4 .left) (c .before .before .if5 .left) (λ e. c .if6 .taken (e ∙ sym (c .before .board-length .ensures)))
-
-sound-requires : tie.Need-sound-requires
-sound-requires c κs = (c .if6 .left ∙ c .before .board-length .ensures, c .before .before .before .before .before .before .if2 .left, c .before .before .before .before .before .if3 .left, c .before .before .before .if4 .left, c .before .before .if5 .left)
+returns-6 c = refused10 _ (search) (search) (search) (search) (search) (λ e. c .if6 .taken (e ∙ sym (search)))
 
 returns-7 : tie.Need-returns-7
 unfolding verdict
@@ -63,16 +45,16 @@ check-board-spec =
     tie.close
     (tie.spec
     returns
-    shared-slice-read-n
-    cast-n
+    (λ c. search needs)
+    (λ c. omega (arith, (c .shared-slice-known2 .given) 0))
     returns-2
     returns-3
-    shared-slice-read-k
-    cast-k
+    (λ c. search needs)
+    (λ c. omega (arith, (c .shared-slice-known3 .given) 1))
     returns-4
     returns-5
-    board-length-requires
+    (λ c κs. search needs)
     returns-6
-    sound-requires
+    (λ c κs. search needs)
     returns-7
     returns-8)

@@ -7,17 +7,11 @@ use Rattle.soundness.proofs.Laws.Rows.{head-form}
 use Rattle.soundness.proofs.board.head_sound.Statement.{statement}
 use Rattle.soundness.proofs.board.head_sound.Tie as tie
 
-zero-pair-requires : tie.Need-zero-pair-requires
-zero-pair-requires c κs = search needs
-
 returns : tie.Need-returns
 returns c = fail4 true true true _ _ refl refl refl (no _ _ (c .before .zero-pair .ensures) (c .if1 .taken)) ∙ head-form _
-
-zero-word-requires : tie.Need-zero-word-requires
-zero-word-requires c κs = search needs
 
 returns-2 : tie.Need-returns-2
 returns-2 c = (c .zero-word .ensures) ∙ pass true true true _ _ refl refl refl (yes _ _ (c .before .before .zero-pair .ensures) (c .before .if1 .left)) ∙ head-form _
 
 pub head-sound-spec : {M : Type 1} → statement M
-head-sound-spec = tie.close (tie.spec zero-pair-requires returns zero-word-requires returns-2)
+head-sound-spec = tie.close (tie.spec (λ c κs. search needs) returns (λ c κs. search needs) returns-2)

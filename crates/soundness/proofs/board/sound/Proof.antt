@@ -8,22 +8,13 @@ use Rattle.soundness.proofs.Laws.Verdicts.{long-enough}
 use Rattle.soundness.proofs.board.sound.Statement.{statement}
 use Rattle.soundness.proofs.board.sound.Tie as tie
 
-head-sound-requires : tie.Need-head-sound-requires
-head-sound-requires c κs = long-enough (c .before .args .n) (c .before .args .k) (c .before .args .board .now) ((c .before .pre) .0)
-
 returns : tie.Need-returns
 unfolding model.sound
 returns c = fail3 true true _ _ _ refl refl (no _ _ (c .before .head-sound .ensures) (c .if1 .taken))
 
-registers-sound-requires : tie.Need-registers-sound-requires
-registers-sound-requires c κs = search needs
-
 returns-2 : tie.Need-returns-2
 unfolding model.sound
 returns-2 c = fail4 true true _ _ _ refl refl (yes _ _ (c .before .before .before .head-sound .ensures) (c .before .before .if1 .left)) (no _ _ (c .before .registers-sound .ensures) (c .if2 .taken))
-
-records-sound-requires : tie.Need-records-sound-requires
-records-sound-requires c κs = search needs
 
 returns-3 : tie.Need-returns-3
 unfolding model.sound
@@ -33,9 +24,9 @@ pub sound-spec : {M : Type 1} → statement M
 sound-spec =
     tie.close
     (tie.spec
-    head-sound-requires
+    (λ c κs. search long-enough)
     returns
-    registers-sound-requires
+    (λ c κs. search needs)
     returns-2
-    records-sound-requires
+    (λ c κs. search needs)
     returns-3)

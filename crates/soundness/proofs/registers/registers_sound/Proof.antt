@@ -8,18 +8,9 @@ use Rattle.soundness.proofs.Laws.Rows.{array-m, m-inside}
 use Rattle.soundness.proofs.registers.registers_sound.Statement.{statement}
 use Rattle.soundness.proofs.registers.registers_sound.Tie as tie
 
-cast-row-sound : tie.Need-cast-row-sound
-cast-row-sound c = search needs
-
-row-sound-requires : tie.Need-row-sound-requires
-row-sound-requires c κs = (m-inside (c .before .args .n) (c .before .args .k) (c .before .args .s .now) ((c .before .pre) .0), (c .before .pre) .2)
-
 returns : tie.Need-returns
 unfolding registersSound
 returns c = fail4 true true true _ _ refl refl refl (no _ _ ((c .before .row-sound .ensures) ∙ array-m (c .before .before .before .args .n) (c .before .before .before .args .k) (c .before .before .before .args .s .now)) (c .if1 .taken))
-
-islands-sound-requires : tie.Need-islands-sound-requires
-islands-sound-requires c κs = search needs
 
 returns-2 : tie.Need-returns-2
 unfolding registersSound
@@ -27,4 +18,4 @@ returns-2 c = (c .islands-sound .ensures) ∙ pass true true true _ _ refl refl 
 
 pub registers-sound-spec : {M : Type 1} → statement M
 registers-sound-spec =
-    tie.close (tie.spec cast-row-sound row-sound-requires returns islands-sound-requires returns-2)
+    tie.close (tie.spec (λ c. search needs) (λ c κs. search m-inside) returns (λ c κs. search needs) returns-2)

@@ -3,7 +3,6 @@ use Prim.Native.Nat.{_≤_, _-_, _+_, _*_}
 use borrow.Author.Needs.{needs}
 use mathlib.Core.Bool.{true}
 use mathlib.Core.Path.{_≡_}
-use native.Mathlib.Omega.{arith}
 use Rattle.model.specs.Bytes.{every, part}
 use Rattle.model.specs.Sound.{registerSound}
 use Rattle.record_soundness.proofs.Laws.Chains.{no, yes}
@@ -17,45 +16,18 @@ Inv-loop s start n marks islands j₀ j = (j ≤ n) × (every j (λ i. registerS
 abbrev μ-loop : tie.MeasureT-loop
 μ-loop s start n marks islands j₀ j = n - j
 
-loop-holds : tie.Need-loop-holds Inv-loop μ-loop
-loop-holds c = (search needs, every-none _)
-
-mul-register-sound : tie.Need-mul-register-sound Inv-loop μ-loop
-mul-register-sound c = search needs
-
-add-register-sound : tie.Need-add-register-sound Inv-loop μ-loop
-add-register-sound c = search needs
-
-register-sound-requires : tie.Need-register-sound-requires Inv-loop μ-loop
-register-sound-requires c κs = search needs
-
-returns : tie.Need-returns Inv-loop μ-loop
-returns c = every-fails _ _ _ (c .before .before .loop-test .taken) (no _ _ (c .before .register-sound .ensures) (c .if1 .taken))
-
-add-j : tie.Need-add-j Inv-loop μ-loop
-add-j c = search needs
-
-loop-less : tie.Need-loop-less Inv-loop μ-loop
-loop-less c = search needs
-
-loop-again : tie.Need-loop-again Inv-loop μ-loop
-loop-again c = (omega arith, every-more _ _ ((c .before .before .before .loop .inv) .1) (yes _ _ (c .before .register-sound .ensures) (c .if1 .left)))
-
-returns-2 : tie.Need-returns-2 Inv-loop μ-loop
-returns-2 c = every-end _ _ _ ((c .before .loop .inv) .0) (c .loop-test .left) ((c .before .loop .inv) .1)
-
 pub row-sound-spec : {M : Type 1} → statement M
 row-sound-spec =
     tie.close
     (tie.spec
     Inv-loop
     μ-loop
-    loop-holds
-    mul-register-sound
-    add-register-sound
-    register-sound-requires
-    returns
-    add-j
-    loop-less
-    loop-again
-    returns-2)
+    (λ c. (search needs, every-none _))
+    (λ c. search needs)
+    (λ c. search needs)
+    (λ c κs. search needs)
+    (λ c. search (no, every-fails))
+    (λ c. search needs)
+    (λ c. search needs)
+    (λ c. search (yes, every-more, needs))
+    (λ c. search every-end))

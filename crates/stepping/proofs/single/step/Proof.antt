@@ -4,27 +4,6 @@ use Rattle.stepping.proofs.Laws.Checking.{passed, step-turned, step-pas
 use Rattle.stepping.proofs.single.step.Statement.{statement}
 use Rattle.stepping.proofs.single.step.Tie as tie
 
-check-board-requires : tie.Need-check-board-requires
-check-board-requires c κs = search needs
-
-enum-known-checked : tie.Need-enum-known-checked
-enum-known-checked c = search needs
-
-enum-told : tie.Need-enum-told
-enum-told c = search needs
-
-step-on-requires : tie.Need-step-on-requires
-step-on-requires c κs = passed _ _ (c .before .enum-told .given .1) (c .before .before .before .check-board .ensures)
-
-same-length : tie.Need-same-length
-same-length c = search needs
-
-returns : tie.Need-returns
-returns c = step-turned _ _ (c .before .before .before .check-board .result) _ (c .before .checked .given .1) (c .before .before .before .check-board .ensures)
-
-same-length-2 : tie.Need-same-length-2
-same-length-2 c = search needs
-
 returns-2 : tie.Need-returns-2
 returns-2 c = step-passed _ _ _ _ (passed _ _ (c .before .before .before .before .enum-told .given .1) (c .before .before .before .before .before .before .check-board .ensures)) (c .before .before .step-on .ensures)
 
@@ -32,11 +11,11 @@ pub step-spec : {M : Type 1} → statement M
 step-spec =
     tie.close
     (tie.spec
-    check-board-requires
-    enum-known-checked
-    enum-told
-    step-on-requires
-    same-length
-    returns
-    same-length-2
+    (λ c κs. search needs)
+    (λ c. search needs)
+    (λ c. search needs)
+    (λ c κs. search passed)
+    (λ c. search needs)
+    (λ c. step-turned _ _ (search) _ (search) (search))
+    (λ c. search needs)
     returns-2)

@@ -6,21 +6,6 @@ use Rattle.stepping.proofs.Laws.Stepping.{head, all-bytes, twelve-low, 
 use Rattle.stepping.proofs.sound_step.step_on.Statement.{statement}
 use Rattle.stepping.proofs.sound_step.step_on.Tie as tie
 
-slice-read-n : tie.Need-slice-read-n
-slice-read-n c = omega (arith, head _ (c .before .before .pre))
-
-slice-read-k : tie.Need-slice-read-k
-slice-read-k c = omega (arith, head _ (c .before .before .before .pre))
-
-returns : tie.Need-returns
-returns c = twelve-low _ _ (omega arith)
-
-returns-2 : tie.Need-returns-2
-returns-2 c = twelve-high _ _ (omega arith)
-
-sub-j : tie.Need-sub-j
-sub-j c = search needs
-
 cast-record-offset : tie.Need-cast-record-offset
 cast-record-offset c = record { fits = omega (arith, head _ (c .before .before .before .before .before .pre)) }
 
@@ -29,24 +14,6 @@ cast-record-offset-2 c = record { fits = omega (arith, head _ (c .before .before
 
 record-offset-requires : tie.Need-record-offset-requires
 record-offset-requires c κs = omega (arith, head _ (c .before .before .before .before .before .pre))
-
-record-at-requires : tie.Need-record-at-requires
-record-at-requires c κs = record-on _ _ _ (c .before .before .before .before .before .before .before .pre) (omega arith) (omega arith) (c .before .record-offset .ensures)
-
-same-length : tie.Need-same-length
-same-length c = search needs
-
-returns-3 : tie.Need-returns-3
-returns-3 c = fourteen _ _ (omega arith) (omega arith) _ (own-record _ _ _ _ (c .before .before .before .before .record-offset .ensures) (c .before .before .record-at .ensures)) (c .if3 .taken)
-
-same-length-2 : tie.Need-same-length-2
-same-length-2 c = search needs
-
-returns-4 : tie.Need-returns-4
-returns-4 c = fifteen _ _ (omega arith) (omega arith) _ (own-record _ _ _ _ (c .before .before .before .before .before .before .before .before .record-offset .ensures) (c .before .before .before .before .before .before .record-at .ensures)) (c .if5 .taken)
-
-same-length-3 : tie.Need-same-length-3
-same-length-3 c = search needs
 
 returns-5 : tie.Need-returns-5
 returns-5 c = sixteen _ _ (omega arith) (omega arith) _ (own-record _ _ _ _ (c .before .before .before .before .before .before .before .before .record-offset .ensures) (c .before .before .before .before .before .before .record-at .ensures)) (omega arith)
@@ -63,9 +30,6 @@ access-requires c κs =
       own-bytes _ _ (omega arith) (omega arith) _ own (start .pre) bytes (omega arith) (omega arith) _ (read .before .before .record-offset .ensures),
     )
 
-same-length-4 : tie.Need-same-length-4
-same-length-4 c = search needs
-
 returns-6 : tie.Need-returns-6
 returns-6 c = accepted _ _ (omega arith) (omega arith) _ (own-record _ _ _ _ (c .before .before .before .before .before .before .before .before .before .before .record-offset .ensures) (c .before .before .before .before .before .before .before .before .record-at .ensures)) (c .before .before .before .before .before .before .before .before .before .before .before .before .before .before .before .before .pre) (all-bytes _ (λ i. c .before .before .before .before .before .before .before .before .before .before .before .before .before .before .before .slice-known .given i .fits)) (omega arith) (omega arith) _ _ (c .before .before .access .ensures)
 
@@ -73,21 +37,21 @@ pub step-on-spec : {M : Type 1} → statement M
 step-on-spec =
     tie.close
     (tie.spec
-    slice-read-n
-    slice-read-k
-    returns
-    returns-2
-    sub-j
+    (λ c. omega (arith, head _ (c .before .before .pre)))
+    (λ c. omega (arith, head _ (c .before .before .before .pre)))
+    (λ c. twelve-low _ _ (omega arith))
+    (λ c. twelve-high _ _ (omega arith))
+    (λ c. search needs)
     cast-record-offset
     cast-record-offset-2
     record-offset-requires
-    record-at-requires
-    same-length
-    returns-3
-    same-length-2
-    returns-4
-    same-length-3
+    (λ c κs. search record-on)
+    (λ c. search needs)
+    (λ c. search (own-record, fourteen))
+    (λ c. search needs)
+    (λ c. search (own-record, fifteen))
+    (λ c. search needs)
     returns-5
     access-requires
-    same-length-4
+    (λ c. search needs)
     returns-6)
