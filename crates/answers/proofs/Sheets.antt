@@ -1,14 +1,10 @@
--- A sheet line by line: where a line ends, the answer at each return, and that the answers from place 0 on are `playSheet`.
--- Relies on the model's sheet; the proof of `next_answer` relies on it, and the program's on `behind`.
-use mathlib.Core.Path.{_≡_, refl, sym, ap, subst, _∙_}
-use mathlib.Core.Bool.{Bool, true, false, cond}
-use mathlib.Core.List.{List, [], _∷_, _++_, append-assoc, append-nil}
-use Prim.Native.Nat.{ℕ, zero, suc, _+_, _-_, _≤_, _<_}
-use native.Mathlib.Omega.{arith}
-use lib.Dec.{eqb, leb, ltb}
-use lib.ListN.{length, take, drop, replicate, length-drop, drop-of-length-le}
-use lib.Seq.{take-length, drop-drop}
-use borrow.Author.Tests.{le-leb, lt-leb, lt-ltb, le-ltb, leb-true, leb-false}
+-- A sheet line by line: where a line ends, the answer at each return, and that the answers from place 0 on are
+-- `playSheet`. Relies on the model's sheet; the proof of `next_answer` relies on it, and the program's on `behind`.
+use Rattle.model.proofs.Kit.{_≡_, refl, sym, ap, subst, _∙_, Bool, true, false, cond, List, [], _∷_, _++_, append-assoc}
+use Rattle.model.proofs.Kit.{append-nil, ℕ, zero, suc, _+_, _-_, _≤_, _<_, le-leb, lt-leb, lt-ltb, le-ltb, leb-true}
+use Rattle.model.proofs.Kit.{leb-false, eqb, leb, ltb, length, take, drop, replicate, length-drop, drop-of-length-le}
+use Rattle.model.proofs.Kit.{drop-drop, arith}
+use lib.Seq.{take-length}
 use Rattle.bytes.specs.Bytes.{slice, indexOf, indexAfter}
 use Rattle.model.specs.Layout.{boardLength}
 use Rattle.model.specs.Sheet as model
@@ -20,7 +16,8 @@ use Rattle.shown.proofs.Rooms.{holds-room}
 use Rattle.shown.proofs.Bounds.{refused-short}
 use Rattle.player.specs.declared.line.Played.{Played}
 use Rattle.player.specs.Played.{Plays}
-use Rattle.answers.specs.Answered.{lineIn, Answered, ended, refusedWhole, lineAnswered, answerAt, Answers, playAll, SheetPrinted}
+use Rattle.answers.specs.Answered.{lineIn, Answered, ended, refusedWhole, lineAnswered, answerAt, Answers}
+use Rattle.answers.specs.Answered.{playAll, SheetPrinted}
 
 -- ---- the line in front
 
@@ -59,7 +56,8 @@ lines-at : (s : List ℕ) (at : ℕ) → at < length s
     → linesOf (drop at s) ≡ lineIn (drop at s) ∷ linesOf (drop (at + length (lineIn (drop at s)) + 1) s)
 lines-at s at h =
     some-line (drop at s) (simp length-drop (omega arith))
-    ∙ ap (λ (t : List ℕ). lineIn (drop at s) ∷ linesOf t) (drop-drop (suc (length (lineIn (drop at s)))) at s ∙ ap (λ (k : ℕ). drop k s) lf)
+    ∙ ap (λ (t : List ℕ). lineIn (drop at s) ∷ linesOf t)
+    (drop-drop (suc (length (lineIn (drop at s)))) at s ∙ ap (λ (k : ℕ). drop k s) lf)
   where
     lf : at + suc (length (lineIn (drop at s))) ≡ at + length (lineIn (drop at s)) + 1
     lf = omega arith
@@ -68,7 +66,8 @@ lines-at s at h =
 lf-found : (t : List ℕ) → (length (lineIn t) ≡ indexOf 10 t) × (lineIn t ≡ take (indexOf 10 t) t)
 unfolding lineIn indexOf indexAfter
 lf-found [] = (refl, refl)
-lf-found (b ∷ u) = by-lf b (λ e. rw e (refl, refl)) (λ e. rw e (ap suc (lf-found u .0), ap (λ (t : List ℕ). b ∷ t) (lf-found u .1)))
+lf-found (b ∷ u) =
+    by-lf b (λ e. rw e (refl, refl)) (λ e. rw e (ap suc (lf-found u .0), ap (λ (t : List ℕ). b ∷ t) (lf-found u .1)))
 
 -- ---- the answer, case by case
 
@@ -87,7 +86,8 @@ module _ (s : List ℕ) (at laid : ℕ) (m : List ℕ) where
 
   by-answer : (P : Answered → Type 0) → (length s ≤ at → P (ended s at laid m))
       → (at < length s → 32768 < length s → P (refusedWhole s at laid m))
-      → (at < length s → length s ≤ 32768 → P (lineAnswered s at laid m (lineIn (drop at s)))) → P (answerAt s at laid m)
+      → (at < length s → length s ≤ 32768 → P (lineAnswered s at laid m (lineIn (drop at s))))
+      → P (answerAt s at laid m)
   by-answer P e r l = by (leb (length s) at) (leb (length s) 32768) refl refl
     where
       by : (t u : Bool) → leb (length s) at ≡ t → leb (length s) 32768 ≡ u → P (answerAt s at laid m)
@@ -108,23 +108,28 @@ module _ (s : List ℕ) (at laid : ℕ) (m : List ℕ) where
       → Answers (answerAt s at laid m) (record { line = line; laid = laid; next = at }) m
   unfolding ended
   at-end line l h =
-      subst (λ (a : Answered). Answers a (record { line = line; laid = laid; next = at }) m) (sym (at-ended s at laid m l))
+      subst (λ (a : Answered). Answers a (record { line = line; laid = laid; next = at }) m)
+      (sym (at-ended s at laid m l))
       (record { line = h; laid = refl; next = refl; memory = refl })
 
-  pub too-long : (line next : Line) → 32768 < length s → at < length s → Holds line (refusedText 1) → Puts line (10 ∷ []) next
+  pub too-long : (line next : Line) → 32768 < length s → at < length s → Holds line (refusedText 1)
+      → Puts line (10 ∷ []) next
       → Answers (answerAt s at laid m) (record { line = next; laid = laid; next = length s }) m
   unfolding refusedWhole
   too-long line next h l q p =
-      subst (λ (a : Answered). Answers a (record { line = next; laid = laid; next = length s }) m) (sym (at-refused s at laid m l h))
+      subst (λ (a : Answered). Answers a (record { line = next; laid = laid; next = length s }) m)
+      (sym (at-refused s at laid m l h))
       (record { line = puts-holds p (refusedText 1) q; laid = refl; next = refl; memory = refl })
 
   -- the line was played, and the sheet goes on behind its LF
-  pub goes-on : (end : ℕ) (r : Played) (d : List ℕ) (next : Line) → length s ≤ 32768 → at < length s → end ≡ at + indexOf 10 (slice at (length s) s)
+  pub goes-on : (end : ℕ) (r : Played) (d : List ℕ) (next : Line) → length s ≤ 32768 → at < length s
+      → end ≡ at + indexOf 10 (slice at (length s) s)
       → Plays (playLine laid m (take (end - at) (drop at s))) r d → Puts (r .line) (10 ∷ []) next
       → Answers (answerAt s at laid m) (record { line = next; laid = r .laid; next = end + 1 }) d
   unfolding slice lineAnswered
   goes-on end r d next h l e p q =
-      subst (λ (a : Answered). Answers a (record { line = next; laid = r .laid; next = end + 1 }) d) (sym (at-line s at laid m l h))
+      subst (λ (a : Answered). Answers a (record { line = next; laid = r .laid; next = end + 1 }) d)
+      (sym (at-line s at laid m l h))
       (record {
         line = puts-holds q (playLine laid m (lineIn (drop at s)) .printed) (plays .line);
         laid = plays .laid;
@@ -156,7 +161,8 @@ played-room p r d h = holds-room (p .printed) (10 ∷ []) (h .line) (omega (arit
 -- what a sheet has still to print from `at` on; nothing behind its end
 unfoldable pub leftOf : (sheet : List ℕ) (at laid : ℕ) (m : List ℕ) → List ℕ
 leftOf s at laid m =
-    cond (leb (length s) 32768) (printed laid m (linesOf (drop at s))) (cond (ltb at (length s)) (refusedText 1 ++ (10 ∷ [])) [])
+    cond (leb (length s) 32768) (printed laid m (linesOf (drop at s)))
+    (cond (ltb at (length s)) (refusedText 1 ++ (10 ∷ [])) [])
 
 module _ (s : List ℕ) (laid : ℕ) (m : List ℕ) where
   left-short : (at : ℕ) → length s ≤ 32768 → leftOf s at laid m ≡ printed laid m (linesOf (drop at s))
@@ -191,7 +197,8 @@ module _ (s : List ℕ) (at laid : ℕ) (m : List ℕ) where
       ++ leftOf s (answerAt s at laid m .next) (answerAt s at laid m .laid) (answerAt s at laid m .memory)
   unfolding ended refusedWhole lineAnswered printed
   left-at =
-      by-answer s at laid m (λ (a : Answered). leftOf s at laid m ≡ a .printed ++ leftOf s (a .next) (a .laid) (a .memory)) (λ h. refl)
+      by-answer s at laid m (λ (a : Answered). leftOf s at laid m ≡ a .printed ++ leftOf s (a .next) (a .laid)
+      (a .memory)) (λ h. refl)
       (λ l h. left-long s laid m at h l ∙ sym (append-nil (refusedText 1 ++ (10 ∷ [])))
       ∙ ap (λ (t : List ℕ). (refusedText 1 ++ (10 ∷ [])) ++ t) (sym (left-none s laid m (length s) (omega arith))))
       (λ l h. left-short s laid m at h ∙ ap (printed laid m) (lines-at s at l)
@@ -201,11 +208,14 @@ module _ (s : List ℕ) (at laid : ℕ) (m : List ℕ) where
   -- inside the sheet each answer leads on
   pub behind : at < length s → at < answerAt s at laid m .next
   unfolding ended refusedWhole lineAnswered
-  behind = by-answer s at laid m (λ (a : Answered). at < length s → at < a .next) (λ h l. absurd (omega arith)) (λ l h b. b) (λ l h b. omega arith)
+  behind =
+      by-answer s at laid m (λ (a : Answered). at < length s → at < a .next) (λ h l. absurd (omega arith)) (λ l h b. b)
+      (λ l h b. omega arith)
 
 -- ---- the program's loop
 
-all-left : (fuel : ℕ) (s : List ℕ) (at laid : ℕ) (m : List ℕ) → length s - at < fuel → playAll fuel s at laid m ≡ leftOf s at laid m
+all-left : (fuel : ℕ) (s : List ℕ) (at laid : ℕ) (m : List ℕ) → length s - at < fuel
+    → playAll fuel s at laid m ≡ leftOf s at laid m
 unfolding playAll
 all-left zero s at laid m f = absurd (omega arith)
 all-left (suc k) s at laid m f = by (leb (length s) at) refl (all-left k s _ _ _)
@@ -214,7 +224,8 @@ all-left (suc k) s at laid m f = by (leb (length s) at) refl (all-left k s _ _ _
     a = answerAt s at laid m
 
     by : (t : Bool) → leb (length s) at ≡ t
-        → (length s - a .next < k → playAll k s (a .next) (a .laid) (a .memory) ≡ leftOf s (a .next) (a .laid) (a .memory))
+        → (length s - a .next < k → playAll k s (a .next) (a .laid) (a .memory) ≡ leftOf s (a .next) (a .laid)
+        (a .memory))
         → playAll (suc k) s at laid m ≡ leftOf s at laid m
     by true e rest = let h = leb-true (length s) at e in rw (le-ltb at (length s) h) (sym (left-none s laid m at h))
     by false e rest =

@@ -11,7 +11,7 @@ use Rattle.model.specs.Layout.{boardLength}
 use Rattle.model.specs.Sheet as model
 use Rattle.model.specs.Sheet.{refusedText}
 use Rattle.shown.specs.Puts.{Holds}
-use Rattle.answers.specs.declared.Answer.{Answer}
+use Rattle.answers.specs.declared.SheetAnswer.{SheetAnswer}
 
 -- the line in front, without the LF that ends it
 unfoldable pub lineIn : List ℕ → List ℕ
@@ -37,21 +37,23 @@ module _ (sheet : List ℕ) (at laid : ℕ) (m : List ℕ) where
   lineAnswered line = answered (model.playLine laid m line)
     where
       answered : model.Played → Answered
-      answered p = record { printed = p .printed ++ (10 ∷ []); laid = p .laid; next = at + length line + 1; memory = p .memory }
+      answered p =
+          record { printed = p .printed ++ (10 ∷ []); laid = p .laid; next = at + length line + 1; memory = p .memory }
 
   -- the answer to the line that starts at `at`
   unfoldable pub answerAt : Answered
   answerAt =
-      cond (leb (length sheet) at) ended (cond (leb (length sheet) 32768) (lineAnswered (lineIn (drop at sheet))) refusedWhole)
+      cond (leb (length sheet) at) ended
+      (cond (leb (length sheet) 32768) (lineAnswered (lineIn (drop at sheet))) refusedWhole)
 
-pub record Answers (a : Answered) (r : Answer) (d : List ℕ) : Type 0 where
+pub record Answers (a : Answered) (r : SheetAnswer) (d : List ℕ) : Type 0 where
   pub line : Holds (r .line) (a .printed)
   pub laid : r .laid ≡ a .laid
   pub next : r .next ≡ a .next
   pub memory : d ≡ a .memory
 
--- The program's loop: answers are printed one after another, each from where the one before says to go on, up to the sheet's end.
--- The fuel bounds the answers.
+-- The program's loop: answers are printed one after another, each from where the one before says to go on, up to the
+-- sheet's end. The fuel bounds the answers.
 unfoldable pub playAll : (fuel : ℕ) (sheet : List ℕ) (at laid : ℕ) (m : List ℕ) → List ℕ
 playAll zero s at laid m = []
 playAll (suc k) s at laid m =
@@ -60,7 +62,8 @@ playAll (suc k) s at laid m =
     ++ playAll k s (answerAt s at laid m .next) (answerAt s at laid m .laid) (answerAt s at laid m .memory))
     []
 
--- Started at the sheet's first byte on a memory of zeros, it prints what the sheet prints: as many answers as the sheet has bytes and
--- one more are enough.
+-- Started at the sheet's first byte on a memory of zeros, it prints what the sheet prints: as many answers as the sheet
+-- has bytes and one more are enough.
 unfoldable pub SheetPrinted : Type 0
-SheetPrinted = (s : List ℕ) (fuel : ℕ) → length s < fuel → playAll fuel s 0 0 (replicate (boardLength 16 64) 0) ≡ model.playSheet s
+SheetPrinted =
+    (s : List ℕ) (fuel : ℕ) → length s < fuel → playAll fuel s 0 0 (replicate (boardLength 16 64) 0) ≡ model.playSheet s

@@ -9,25 +9,25 @@ use shown::line::empty;
 use shown::line::put_byte;
 
 // What is printed next, the board in force afterwards, and the place of the sheet to go on from.
-pub struct Answer {
+pub struct SheetAnswer {
     pub line: Line,
     pub laid: usize,
     pub next: usize,
 }
 
 // The answer to the line that starts at `at`; none at the sheet's end.
-pub fn next_answer(sheet: &[u8], at: usize, laid: usize, memory: &mut [u8]) -> Answer
+pub fn next_answer(sheet: &[u8], at: usize, laid: usize, memory: &mut [u8]) -> SheetAnswer
     ensures { λ r. ⌜ Answers (answerAt (now (sheet .entry)) at laid (now (memory .entry))) r (now (memory .exit)) ⌝ }
 {
     if sheet.len() <= at {
-        return Answer {
+        return SheetAnswer {
             line: empty(),
             laid,
             next: at,
         };
     }
     if 32768 < sheet.len() {
-        return Answer {
+        return SheetAnswer {
             line: put_byte(refused_line(1), b'\n'),
             laid,
             next: sheet.len(),
@@ -35,7 +35,7 @@ pub fn next_answer(sheet: &[u8], at: usize, laid: usize, memory: &mut [u8]) -> A
     }
     let end = find(sheet, at, sheet.len(), b'\n');
     let played = play_line(&sheet[at..end], laid, memory);
-    Answer {
+    SheetAnswer {
         line: put_byte(played.line, b'\n'),
         laid: played.laid,
         next: end + 1,

@@ -1,4 +1,3 @@
 -- Laws that the proofs of the functions cite.
 pub mod Ends
 pub mod Moves
-pub mod Ready

@@ -1,10 +1,7 @@
 -- One move on a record's fields, from its parts: what the branches of `advance`, its write and its reads return is the
 -- listing's move. Relies on OneRead and Ends; the proofs of src/lib.rt rely on it.
-use mathlib.Core.Path.{_≡_, refl, sym, ap, _∙_, subst}
-use mathlib.Core.Bool.{true, false}
-use Prim.Native.Nat.{ℕ, _+_, _≤_, _<_}
-use native.Mathlib.Omega.{arith}
-use lib.Dec.{ltb}
+use Rattle.model.proofs.Kit.{_≡_, refl, sym, ap, subst, _∙_, Bool, true, false, [], _∷_, ℕ, _+_, _≤_, _<_, ltb, w8}
+use Rattle.model.proofs.Kit.{Fits, arith}
 use Rattle.model.specs.declared.Record.{Record}
 use Rattle.model.specs.declared.Register as Fields
 use Rattle.model.specs.declared.StepAnswer.the-variants.{Read}
@@ -13,32 +10,35 @@ use Rattle.model.specs.Listing.{Turn, turnM, turnA, turnB, Seen, Stage, reading
 use Rattle.model.specs.Listing.{flagOf, flagNumber, entry, stay, ended, see, move}
 use Rattle.model.specs.Listing as listing
 use Rattle.model.specs.Layout.{fields, flagByte, recordFields, recordValue, registerFields, registerValue}
-use Rattle.model.specs.Layout.{writingOf, readingOf, ofPhase}
+use Rattle.model.specs.Layout.{writingOf, readingOf, ofPhase, changed, phaseIs, seenIs, highestIs, bestIs}
 use Rattle.model.specs.Told.{told}
 use Rattle.archipelago.specs.declared.Moved.{Moved}
 use Rattle.collect.specs.Collected.{collected, noting, withSeen, Kept, seeing}
-use Rattle.archipelago.specs.Advanced.{Advanced, Written, Ready, Reads, Moves, MovesReading, Finishes, at, staying, passing, writing}
+use Rattle.archipelago.specs.Advanced.{Advanced, Written, Ready, Reads, Moves, MovesReading, Finishes, staying}
+use Rattle.archipelago.specs.Advanced.{passing, writing}
 use Rattle.collect.proofs.OneRead.{collected-with, kept-with}
 
 -- ---- reads
 
 module _ (t : Turn) (n : ℕ) (f : Record) (reads : Reads t n f) where
   pub reads-kept : Kept f
-  unfolding Kept withSeen noting recordFields fields
+  unfolding Kept withSeen noting changed recordFields fields
   reads-kept =
       let e = reads .whole in
-      λ i. record { phase = f .phase; position = f .position; island = f .island; seen = e i .seen; highest = e i .highest; flag = f .flag; proposal = f .proposal; carried = f .carried; best = e i .best }
+      λ i. changed (seenIs (e i .seen) ∷ highestIs (e i .highest) ∷ bestIs (e i .best) ∷ []) f
 
-  -- a read that is not the last
-  pub passed : (K : ℕ) (g : Fields.Register) (next : Record) (r : Moved) → ltb (f .position + 1) n ≡ true → next ≡ seeing t f g → r ≡ passing next
-      → MovesReading t n K f g r
-  unfolding MovesReading move stay Written told passing at staying seeing withSeen noting recordFields fields
-  passed K g next r h q p =
+  -- a read that is not the last, by the test b of whether the collect goes on
+  pub passed : (K : ℕ) (g : Fields.Register) (next : Record) (r : Moved) (b : Bool) → b ≡ ltb (f .position + 1) n
+      → b ≡ true
+      → next ≡ seeing t f g → r ≡ passing next → MovesReading t n K f g r
+  unfolding MovesReading move stay Written told passing staying seeing withSeen noting changed recordFields fields
+  passed K g next r b d h q p =
       let e = reads .whole in
       let a = see figures t (collected f) (registerValue g) in
-      rw h
-      (subst (Advanced _ _)
-      (sym (p ∙ ap passing q ∙ (λ i. staying (fields (sym e i .phase) (f .position + 1) (f .island) a (sym e i .flag) (f .proposal) (f .carried)) Read)))
+      rw (sym d ∙ h)
+      (subst (Advanced _ _) (sym (p ∙ ap passing q
+      ∙ ap (λ (z : Record). staying
+      (fields (z .phase) (f .position + 1) (f .island) a (z .flag) (f .proposal) (f .carried)) Read) (sym e)))
       (record { station = refl; written = refl; answer = refl }))
 
 -- the record that a collect ends with is kept too
@@ -46,22 +46,26 @@ pub seeing-kept : (t : Turn) (f next : Record) (g : Fields.Register) → next �
 unfolding seeing
 seeing-kept t f next g q = subst Kept (sym q) (kept-with f _)
 
--- at the same position
-pub seeing-position : (t : Turn) (n : ℕ) (f next : Record) (g : Fields.Register) → next ≡ seeing t f g → f .position < n → next .position < n
-unfolding seeing withSeen noting
-seeing-position t n f next g q h = subst (λ (f : Record). f .position < n) (sym q) h
+-- its position can be passed
+pub seeing-position : (t : Turn) (n : ℕ) (f next : Record) (g : Fields.Register) → next ≡ seeing t f g → Reads t n f
+    → Fits w8 n
+    → next .position < 255
+unfolding seeing withSeen noting changed
+seeing-position t n f next g q reads h =
+    subst (λ (f : Record). f .position < 255) (sym q) (omega (arith, reads .position, h .fits))
 
--- and on the same island
-pub seeing-island : (t : Turn) (f next : Record) (g : Fields.Register) (K : ℕ) → next ≡ seeing t f g → f .island < K → next .island < K
-unfolding seeing withSeen noting
+-- and it is on the same island
+pub seeing-island : (t : Turn) (f next : Record) (g : Fields.Register) (K : ℕ) → next ≡ seeing t f g → f .island < K
+    → next .island < K
+unfolding seeing withSeen noting changed
 seeing-island t f next g K q h = subst (λ (f : Record). f .island < K) (sym q) h
 
 -- the last read
-pub finished : (t : Turn) (n K : ℕ) (f : Record) (g : Fields.Register) (next : Record) (r : Moved) → ltb (f .position + 1) n ≡ false → next ≡ seeing t f g
-    → Finishes t K next r → MovesReading t n K f g r
-unfolding MovesReading Finishes move seeing withSeen noting
-finished t n K f g next r h q a =
-    rw h
+pub finished : (t : Turn) (n K : ℕ) (f : Record) (g : Fields.Register) (next : Record) (r : Moved) (b : Bool)
+    → b ≡ ltb (f .position + 1) n → b ≡ false → next ≡ seeing t f g → Finishes t K next r → MovesReading t n K f g r
+unfolding MovesReading Finishes move seeing withSeen noting changed
+finished t n K f g next r b d h q a =
+    rw (sym d ∙ h)
     (subst (λ (b : Seen Figure). Advanced (f .proposal) (ended K t (f .island) (f .carried) b) r) (collected-with f _)
     (subst (λ (f : Record). Advanced (f .proposal) (ended K t (f .island) (f .carried) (collected f)) r) q a))
 
@@ -70,16 +74,22 @@ finished t n K f g next r h q a =
 pub wrote : (t : Turn) (n K : ℕ) (f : Record) (g : Fields.Register) (mark island : ℕ) (r : Moved)
     → recordFields (active (f .proposal) (listing.writing t (f .island) (f .carried))) ≡ f
     → registerFields (entry t (f .island) (f .carried)) ≡ (record { mark = mark; island = island; figure = f .carried })
-    → r ≡ writing f mark island → Advanced (f .proposal) (move figures n K (listing.writing t (f .island) (f .carried)) (registerValue g)) r
-unfolding move Written told writing at recordFields fields
+    → r ≡ writing f mark island
+    → Advanced (f .proposal) (move figures n K (listing.writing t (f .island) (f .carried)) (registerValue g)) r
+unfolding move Written told writing changed recordFields fields
 wrote t n K f g mark island r e w q =
     subst (Advanced _ _) (sym q)
-    (record { station = λ i. at (sym e i) (sym e i .phase + 1) (sym e i .position); written = (refl, sym w); answer = refl })
+    (record {
+      station = ap (λ (z : Record). changed (phaseIs (z .phase + 1) ∷ []) z) (sym e);
+      written = (refl, sym w);
+      answer = refl;
+    })
 
 -- ---- the phases
 
 -- the stage that a record stands for is the only one
-pub moved-as : (n K : ℕ) (f : Record) (g : Fields.Register) (r : Moved) (s : Stage Figure) → recordValue f ≡ active (f .proposal) s
+pub moved-as : (n K : ℕ) (f : Record) (g : Fields.Register) (r : Moved) (s : Stage Figure)
+    → recordValue f ≡ active (f .proposal) s
     → Advanced (f .proposal) (move figures n K s (registerValue g)) r → Moves n K f g r
 unfolding Moves
 moved-as n K f g r s e a v z d =
@@ -128,7 +138,8 @@ module _ (n K : ℕ) (f : Record) (ready : Ready n K f) where
   unfolding Collects
   ready-reads t e = record { whole = ap recordFields (sym e) ∙ ready .whole; position = ready .position }
 
-  ready-writes : (t : Turn) → Writes f t → recordFields (active (f .proposal) (listing.writing t (f .island) (f .carried))) ≡ f
+  ready-writes : (t : Turn) → Writes f t
+      → recordFields (active (f .proposal) (listing.writing t (f .island) (f .carried))) ≡ f
   unfolding Writes
   ready-writes t e = ap recordFields (sym e) ∙ ready .whole
 
@@ -139,20 +150,25 @@ module _ (n K : ℕ) (f : Record) (ready : Ready n K f) where
 
     pub wrote-m : f .phase ≡ 1 → r ≡ writing f 1 (f .island) → Moves n K f g r
     unfolding Writes registerFields entry flagNumber
-    wrote-m e q = moved-as n K f g r _ (phase-1 f e) (wrote turnM n K f g 1 (f .island) r (ready-writes turnM (phase-1 f e)) refl q)
+    wrote-m e q =
+        moved-as n K f g r _ (phase-1 f e)
+        (wrote turnM n K f g 1 (f .island) r (ready-writes turnM (phase-1 f e)) refl q)
 
     pub wrote-a : f .phase ≡ 3 → r ≡ writing f 1 0 → Moves n K f g r
     unfolding Writes registerFields entry flagNumber
-    wrote-a e q = moved-as n K f g r _ (phase-3 f e) (wrote turnA n K f g 1 0 r (ready-writes turnA (phase-3 f e)) refl q)
+    wrote-a e q =
+        moved-as n K f g r _ (phase-3 f e) (wrote turnA n K f g 1 0 r (ready-writes turnA (phase-3 f e)) refl q)
 
     pub wrote-b : f .phase ≡ 5 → r ≡ writing f (f .flag) 0 → Moves n K f g r
     unfolding Writes registerFields entry recordFields fields flagByte
     wrote-b e q =
         let whole = ready-writes (turnB (flagOf (f .flag))) (phase-5 f e) in
         moved-as n K f g r _ (phase-5 f e)
-        (wrote (turnB (flagOf (f .flag))) n K f g (f .flag) 0 r whole (λ i. record { mark = whole i .flag; island = 0; figure = f .carried }) q)
+        (wrote (turnB (flagOf (f .flag))) n K f g (f .flag) 0 r whole
+        (λ i. record { mark = whole i .flag; island = 0; figure = f .carried }) q)
 
-  pub last-phase : (f .phase ≡ 1 → ⊥) → (f .phase ≡ 2 → ⊥) → (f .phase ≡ 3 → ⊥) → (f .phase ≡ 4 → ⊥) → (f .phase ≡ 5 → ⊥) → f .phase ≡ 6
+  pub last-phase : (f .phase ≡ 1 → ⊥) → (f .phase ≡ 2 → ⊥) → (f .phase ≡ 3 → ⊥) → (f .phase ≡ 4 → ⊥)
+      → (f .phase ≡ 5 → ⊥) → f .phase ≡ 6
   last-phase a b c d e = phase-of (f .phase) (ready .begun) (ready .going) a b c d e
     where
       phase-of : (p : ℕ) → 1 ≤ p → p ≤ 6 → (p ≡ 1 → ⊥) → (p ≡ 2 → ⊥) → (p ≡ 3 → ⊥) → (p ≡ 4 → ⊥) → (p ≡ 5 → ⊥) → p ≡ 6

@@ -1,7 +1,8 @@
 -- What `advance` asks of a record and what its result says of the listing's move.
--- Relies on the model's listing and layout; the contracts of `advance`, of the reads and of the ends of a collect rely on it.
+-- Relies on the model's listing and layout; the contracts of `advance`, of the reads and of the ends rely on it.
 use mathlib.Core.Path.{_≡_}
 use mathlib.Core.Bool.{true, false}
+use mathlib.Core.List.{[], _∷_}
 use mathlib.Core.Option.{Option, none, some}
 use Prim.Native.Nat.{ℕ, _+_, _≤_, _<_}
 use lib.IntN.{pos}
@@ -11,13 +12,13 @@ use Rattle.model.specs.declared.StepAnswer.{StepAnswer}
 use Rattle.model.specs.declared.StepAnswer.the-variants.{Wrote, Read}
 use Rattle.model.specs.Figure.{Figure, figures}
 use Rattle.model.specs.Listing.{Turn, Stage, reading, has-decided, active, decided, stay, ended, Register, Move, move}
-use Rattle.model.specs.Layout.{recordFields, recordValue, registerFields, registerValue}
+use Rattle.model.specs.Layout.{recordFields, recordValue, registerFields, registerValue, changed, phaseIs, positionIs}
 use Rattle.model.specs.Told.{told}
 use Rattle.archipelago.specs.declared.Moved.{Moved}
 use Rattle.collect.specs.Collected.{collected}
 
--- A record as `advance` takes it: of a station that is going, whose fields hold what its phase has a use for and nothing
--- else. Every record of a sound board whose phase is 1 to 6 is ready (proofs/Ready.antt).
+-- A record as `advance` takes it: of a station that is going, whose fields hold what its phase has a use for and
+-- nothing else. Every record of a sound board whose phase is 1 to 6 is ready (proofs/Laws/Ready.antt of stepping).
 pub record Ready (n K : ℕ) (f : Record) : Type 0 where
   pub whole : recordFields (recordValue f) ≡ f
   pub begun : 1 ≤ f .phase
@@ -50,7 +51,8 @@ Moves n K f g r =
 -- The same for a record in the collect of turn t.
 unfoldable pub MovesReading : (t : Turn) (n K : ℕ) (f : Record) (g : Fields.Register) (r : Moved) → Type 0
 MovesReading t n K f g r =
-    Advanced (f .proposal) (move figures n K (reading t (f .island) (f .carried) (f .position) (collected f)) (registerValue g)) r
+    Advanced (f .proposal)
+    (move figures n K (reading t (f .island) (f .carried) (f .position) (collected f)) (registerValue g)) r
 
 -- And for a record that has read its last register: the end of the collect of turn t.
 unfoldable pub Finishes : (t : Turn) (K : ℕ) (f : Record) (r : Moved) → Type 0
@@ -62,27 +64,19 @@ decision c x = stay (has-decided c x) (decided c x)
 
 -- The three shapes of a result: nothing written, a read that is not the last, and a write.
 unfoldable pub staying : Record → StepAnswer → Moved
-staying f a = record { station = f; register = record { mark = 0; island = 0; figure = pos 0 }; writes = false; answer = a }
-
-unfoldable pub at : Record → (phase position : ℕ) → Record
-at f phase position = record {
-  phase = phase;
-  position = position;
-  island = f .island;
-  seen = f .seen;
-  highest = f .highest;
-  flag = f .flag;
-  proposal = f .proposal;
-  carried = f .carried;
-  best = f .best;
+staying f a = record {
+  station = f;
+  register = record { mark = 0; island = 0; figure = pos 0 };
+  writes = false;
+  answer = a;
 }
 
 unfoldable pub passing : Record → Moved
-passing f = staying (at f (f .phase) (f .position + 1)) Read
+passing f = staying (changed (positionIs (f .position + 1) ∷ []) f) Read
 
 unfoldable pub writing : Record → (mark island : ℕ) → Moved
 writing f mark island = record {
-  station = at f (f .phase + 1) (f .position);
+  station = changed (phaseIs (f .phase + 1) ∷ []) f;
   register = record { mark = mark; island = island; figure = f .carried };
   writes = true;
   answer = Wrote;

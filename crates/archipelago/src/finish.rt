@@ -1,16 +1,16 @@
 // The end of a collect, for each of the three arrays: the next phase, or the decision, or the end of the islands.
 // Relies on the crate's `Moved`; the reads rely on it.
 use crate::Moved;
-use crate::phase::DECIDED;
-use crate::phase::SPENT;
-use crate::phase::WRITE_A;
-use crate::phase::WRITE_B;
-use crate::phase::WRITE_M;
-use collect::marks::ADOPT;
-use collect::marks::COMMIT;
 use model::Record;
 use model::Register;
 use model::StepAnswer;
+use model::marks::ADOPT;
+use model::marks::COMMIT;
+use model::phase::DECIDED;
+use model::phase::SPENT;
+use model::phase::WRITE_A;
+use model::phase::WRITE_B;
+use model::phase::WRITE_M;
 ghost use mathlib.Core.Path.{_≡_};
 ghost use Prim.Native.Nat.{ℕ, _<_};
 ghost use lib.Dec.{eqb};

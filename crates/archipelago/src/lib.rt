@@ -1,18 +1,17 @@
 // The listing's one move on a station's fields: one access to one register. It sees no byte and no board.
 // Relies on the model's declared types and on what a collect keeps; the stepper of a lent record relies on it.
 mod finish;
-mod phase;
 mod read;
 
-use collect::marks::WRITTEN;
 use model::Record;
 use model::Register;
 use model::StepAnswer;
-use phase::READ_A;
-use phase::READ_M;
-use phase::WRITE_A;
-use phase::WRITE_B;
-use phase::WRITE_M;
+use model::marks::WRITTEN;
+use model::phase::READ_A;
+use model::phase::READ_M;
+use model::phase::WRITE_A;
+use model::phase::WRITE_B;
+use model::phase::WRITE_M;
 use read::read_a;
 use read::read_b;
 use read::read_m;

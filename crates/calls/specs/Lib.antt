@@ -1,2 +1,3 @@
--- What the inner functions of `show` promise; the public calls cite the model's definitions.
+-- What the inner functions of the calls promise; the public calls cite the model's definitions.
+pub mod Proposing
 pub mod Showing

@@ -1,5 +1,5 @@
 // Laying a fresh board in lent memory.
-// Relies on the places of a board; it is a public call.
+// Relies on the shape of a board; it is a public call.
 ghost use mathlib.Core.Path.{_≡_};
 ghost use mathlib.Core.List.{List, _++_};
 ghost use Prim.Native.Nat.{_≤_};
@@ -7,8 +7,10 @@ ghost use lib.ListN.{length, replicate};
 ghost use Rattle.model.specs.Layout.{freshBoard};
 ghost use Rattle.model.specs.Calls.{lay};
 ghost use Rattle.model.specs.Told.{verdict};
-use codec::places::board_length;
 use model::Verdict;
+use soundness::shape::islands_in_range;
+use soundness::shape::shape_refusal;
+use soundness::shape::stations_in_range;
 
 // Zero in every byte.
 fn clear(s: &mut [u8])
@@ -25,23 +27,9 @@ fn clear(s: &mut [u8])
 pub fn lay(board: &mut [u8], n: u8, k: u8) -> Verdict
     ensures { λ r. ⌜ (verdict r ≡ lay n k (now (board .entry)) .answer) × (now (board .exit) ≡ lay n k (now (board .entry)) .bytes) ⌝ }
 {
-    if board.len() < 8 {
-        return Verdict::Refused { number: 7 };
-    }
-    if n < 1 {
-        return Verdict::Refused { number: 8 };
-    }
-    if 16 < n {
-        return Verdict::Refused { number: 8 };
-    }
-    if k < 2 {
-        return Verdict::Refused { number: 9 };
-    }
-    if 64 < k {
-        return Verdict::Refused { number: 9 };
-    }
-    if board.len() != board_length(n as usize, k as usize) {
-        return Verdict::Refused { number: 10 };
+    let number = shape_refusal(board, n, k, stations_in_range(n), islands_in_range(k));
+    if number != 0 {
+        return Verdict::Refused { number };
     }
     clear(board);
     board[0] = n;

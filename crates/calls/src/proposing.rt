@@ -1,24 +1,29 @@
 // Proposing a figure for an idle station.
-// Relies on the test of a board and on the codec; it is a public call.
+// Relies on the test of a board, the place of a station and the codec; it is a public call.
 ghost use mathlib.Core.Path.{_≡_};
 ghost use mathlib.Core.Option.{none};
 ghost use Rattle.model.specs.Listing.{proposed};
 ghost use Rattle.model.specs.Layout.{recordFields};
 ghost use Rattle.model.specs.Calls.{boardRefusal, propose};
 ghost use Rattle.model.specs.Told.{verdict};
-use codec::places::record_offset;
+ghost use Rattle.calls.specs.Proposing.{Proposes};
 use codec::records::put_record;
 use codec::records::record_at;
 use model::Record;
 use model::Verdict;
+use model::phase::IDLE;
+use model::phase::WRITE_M;
 use soundness::board::check_board;
+use soundness::place::NO_STATION;
+use soundness::place::Place;
+use soundness::place::station_place;
 
 // "phase 1, c = 0, proposal and carried = the figure"
 fn beginning(figure: i32) -> Record
     ensures { λ r. ⌜ r ≡ recordFields (proposed figure) ⌝ }
 {
     Record {
-        phase: 1,
+        phase: WRITE_M,
         position: 0,
         island: 0,
         seen: 0,
@@ -33,19 +38,13 @@ fn beginning(figure: i32) -> Record
 // A proposal on a board that is known to be sound.
 fn propose_on(board: &mut [u8], station: u8, figure: i32) -> Verdict
     requires { ⌜ boardRefusal (now board) none ≡ none ⌝ }
-    ensures { λ r. ⌜ (verdict r ≡ propose station figure (now (board .entry)) .answer) × (now (board .exit) ≡ propose station figure (now (board .entry)) .bytes) ⌝ }
+    ensures { λ r. ⌜ Proposes station figure (now (board .entry)) r (now (board .exit)) ⌝ }
 {
-    let n = board[0];
-    let k = board[1];
-    if station < 1 {
-        return Verdict::Refused { number: 12 };
-    }
-    if n < station {
-        return Verdict::Refused { number: 12 };
-    }
-    let at = record_offset(n as usize, k as usize, station as usize - 1);
+    let Place::At { index: _, at } = station_place(board, station) else {
+        return Verdict::Refused { number: NO_STATION };
+    };
     let own = record_at(board, at);
-    if own.phase != 0 {
+    if own.phase != IDLE {
         return Verdict::Refused { number: 13 };
     }
     put_record(board, at, beginning(figure));

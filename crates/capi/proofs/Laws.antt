@@ -1,4 +1,4 @@
 -- Laws over plain variables, one subject a file.
 pub mod Board
 pub mod Listed
-pub mod Lines
+pub mod LentLines

@@ -2,4 +2,4 @@
 // Relies on the calls, the lexer, the player and the packing of answers; a station's firmware links it, and
 // include/lufanelis.h declares it.
 mod board;
-mod lines;
+mod lent_lines;

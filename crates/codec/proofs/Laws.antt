@@ -1,4 +1,4 @@
 -- One law for each return of a function that has a proof file, over plain variables.
 pub mod Reads
 pub mod Writes
-pub mod Over
+pub mod Stores

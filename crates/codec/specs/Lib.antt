@@ -1,2 +1,2 @@
 -- The definitions that the contracts of the parts of a record cite.
-pub mod Over
+pub mod Parts

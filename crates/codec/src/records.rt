@@ -5,8 +5,8 @@ ghost use Prim.Native.Nat.{_+_, _≤_};
 ghost use lib.ListN.{length};
 ghost use Rattle.model.specs.Bytes.{part, splice};
 ghost use Rattle.model.specs.Figure.{figureBytes};
-ghost use Rattle.model.specs.Layout.{readRecord, layRecord};
-ghost use Rattle.codec.specs.Over.{phaseOver, collectedOver, startedOver};
+ghost use Rattle.model.specs.Layout.{readRecord, layRecord, putChanges};
+ghost use Rattle.codec.specs.Parts.{phasePart, collectedPart, startedPart};
 use crate::cells::put_cell;
 use figures::figure_at;
 use figures::figure_bytes;
@@ -74,14 +74,14 @@ fn put_figure(board: &mut [u8], at: usize, v: i32)
 // Three parts of a record, each put where the rest of the record stands already.
 pub fn put_phase(board: &mut [u8], at: usize, r: Record)
     requires { ⌜ at + 24 ≤ length (now board) ⌝ }
-    ensures { λ _. ⌜ now (board .exit) ≡ phaseOver r at (now (board .entry)) ⌝ }
+    ensures { λ _. ⌜ now (board .exit) ≡ putChanges (phasePart r) at (now (board .entry)) ⌝ }
 {
     board[at] = r.phase;
 }
 
 pub fn put_collected(board: &mut [u8], at: usize, r: Record)
     requires { ⌜ at + 24 ≤ length (now board) ⌝ }
-    ensures { λ _. ⌜ now (board .exit) ≡ collectedOver r at (now (board .entry)) ⌝ }
+    ensures { λ _. ⌜ now (board .exit) ≡ putChanges (collectedPart r) at (now (board .entry)) ⌝ }
 {
     board[at + 1] = r.position;
     board[at + 3] = r.seen;
@@ -91,7 +91,7 @@ pub fn put_collected(board: &mut [u8], at: usize, r: Record)
 
 pub fn put_started(board: &mut [u8], at: usize, r: Record)
     requires { ⌜ at + 24 ≤ length (now board) ⌝ }
-    ensures { λ _. ⌜ now (board .exit) ≡ startedOver r at (now (board .entry)) ⌝ }
+    ensures { λ _. ⌜ now (board .exit) ≡ putChanges (startedPart r) at (now (board .entry)) ⌝ }
 {
     put_phase(board, at, r);
     board[at + 2] = r.island;

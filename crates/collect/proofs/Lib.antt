@@ -1,4 +1,4 @@
 -- Laws that the proofs of the functions cite.
-pub mod Figures
+pub mod Handed
 pub mod OneRead
 pub mod ReadB

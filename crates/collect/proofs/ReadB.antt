@@ -1,12 +1,11 @@
--- One read of a collect of B: what each branch of `see_b`, `see_adopt` and `see_commit` leaves is what the listing's `see`
--- gives. Relies on OneRead; the proofs of those three functions rely on it.
-use mathlib.Core.Path.{_≡_, refl, sym, ap, _∙_}
-use mathlib.Core.Bool.{Bool, true, false, cond}
-use Prim.Native.Nat.{ℕ, zero, suc}
+-- One read of a collect of B: what each branch of `see_b`, `see_adopt` and `see_commit` leaves is what the listing's
+-- `see` gives. Relies on OneRead; the proofs of those three functions rely on it.
+use Rattle.model.proofs.Kit.{_≡_, refl, sym, ap, _∙_, Bool, true, false, cond, ℕ, zero, suc}
 use Rattle.model.specs.declared.Record.{Record}
 use Rattle.model.specs.declared.Register as Fields
 use Rattle.model.specs.Figure.{Figure, figures, sameFigure}
-use Rattle.model.specs.Listing.{Flag, adopt, commit, turnB, first, second, third, Seen, nothing, seen, larger, add, flagOf}
+use Rattle.model.specs.Listing.{Flag, adopt, commit, turnB, first, second, third, Seen, nothing, seen, larger, add}
+use Rattle.model.specs.Listing.{flagOf}
 use Rattle.model.specs.Layout.{seenNumber, bestIsland, bestFigure, seenOf}
 use Rattle.collect.specs.Collected.{collected, noting, withSeen, Kept, seeing, Adds}
 use Rattle.collect.proofs.OneRead.{at-seen, added, see-filled}
@@ -17,11 +16,13 @@ pub adopt-first : (f r : Record) (y z : Figure) → f .seen ≡ 0 → r ≡ noti
 unfolding Adds seenOf add withSeen seenNumber bestIsland bestFigure
 adopt-first f r y z s q l e = q ∙ ap (noting f 1 0) l ∙ added (turnB e) f adopt 0 y 0 s
 
-pub adopt-more : (f r : Record) (y z : Figure) → f .seen ≡ 1 → r ≡ noting f 1 (f .highest) z → z ≡ larger figures (f .best) y → Adds adopt f y r
+pub adopt-more : (f r : Record) (y z : Figure) → f .seen ≡ 1 → r ≡ noting f 1 (f .highest) z
+    → z ≡ larger figures (f .best) y → Adds adopt f y r
 unfolding Adds seenOf add withSeen seenNumber bestIsland bestFigure
 adopt-more f r y z s q l e = q ∙ ap (noting f 1 (f .highest)) l ∙ added (turnB e) f adopt 0 y 1 s
 
-pub adopt-beside : (f r : Record) (y z : Figure) → f .seen ≡ 2 → r ≡ noting f 3 (f .highest) z → z ≡ f .best → Adds adopt f y r
+pub adopt-beside : (f r : Record) (y z : Figure) → f .seen ≡ 2 → r ≡ noting f 3 (f .highest) z → z ≡ f .best
+    → Adds adopt f y r
 unfolding Adds seenOf add withSeen seenNumber bestIsland bestFigure
 adopt-beside f r y z s q l e = q ∙ ap (noting f 3 (f .highest)) l ∙ added (turnB e) f adopt 0 y 2 s
 
@@ -31,21 +32,25 @@ pub commit-first : (f r : Record) (y z : Figure) → f .seen ≡ 0 → r ≡ not
 unfolding Adds seenOf add withSeen seenNumber bestIsland bestFigure
 commit-first f r y z s q l e = q ∙ ap (noting f 2 0) l ∙ added (turnB e) f commit 0 y 0 s
 
-pub commit-beside : (f r : Record) (y z : Figure) → f .seen ≡ 1 → r ≡ noting f 3 (f .highest) z → z ≡ y → Adds commit f y r
+pub commit-beside : (f r : Record) (y z : Figure) → f .seen ≡ 1 → r ≡ noting f 3 (f .highest) z → z ≡ y
+    → Adds commit f y r
 unfolding Adds seenOf add withSeen seenNumber bestIsland bestFigure
 commit-beside f r y z s q l e = q ∙ ap (noting f 3 (f .highest)) l ∙ added (turnB e) f commit 0 y 1 s
 
 commit-again : (f : Record) (y : Figure) (b : Bool) → f .seen ≡ 2 → sameFigure (f .best) y ≡ b → (e : Flag)
-    → withSeen f (seen (cond b second third) (f .highest) (f .best)) ≡ withSeen f (add figures (turnB e) (collected f) commit 0 y)
+    → withSeen f (seen (cond b second third) (f .highest) (f .best))
+    ≡ withSeen f (add figures (turnB e) (collected f) commit 0 y)
 unfolding seenOf add figures
 commit-again f y b s d e =
-    ap (λ (b : Bool). withSeen f (seen (cond b second third) (f .highest) (f .best))) (sym d) ∙ added (turnB e) f commit 0 y 2 s
+    ap (λ (b : Bool). withSeen f (seen (cond b second third) (f .highest) (f .best))) (sym d)
+    ∙ added (turnB e) f commit 0 y 2 s
 
 pub commit-same : (f : Record) (y : Figure) → Kept f → f .seen ≡ 2 → sameFigure (f .best) y ≡ true → Adds commit f y f
 unfolding Adds Kept seenOf
 commit-same f y kept s d e = sym kept ∙ ap (withSeen f) (at-seen f 2 s) ∙ commit-again f y true s d e
 
-pub commit-differs : (f r : Record) (y z : Figure) → f .seen ≡ 2 → sameFigure (f .best) y ≡ false → r ≡ noting f 3 (f .highest) z → z ≡ f .best
+pub commit-differs : (f r : Record) (y z : Figure) → f .seen ≡ 2 → sameFigure (f .best) y ≡ false
+    → r ≡ noting f 3 (f .highest) z → z ≡ f .best
     → Adds commit f y r
 unfolding Adds withSeen seenNumber bestIsland bestFigure
 commit-differs f r y z s d q l e = q ∙ ap (noting f 3 (f .highest)) l ∙ commit-again f y false s d e
@@ -60,7 +65,8 @@ add-third (suc zero) n m l j k x y d e = absurd (m refl)
 add-third (suc (suc zero)) n m l j k x y d e = absurd (l refl)
 add-third (suc (suc (suc s))) n m l j k x y d e = refl
 
-pub third-stays : (d : Flag) (f : Record) (y : Figure) → Kept f → (f .seen ≡ 0 → ⊥) → (f .seen ≡ 1 → ⊥) → (f .seen ≡ 2 → ⊥) → Adds d f y f
+pub third-stays : (d : Flag) (f : Record) (y : Figure) → Kept f → (f .seen ≡ 0 → ⊥) → (f .seen ≡ 1 → ⊥)
+    → (f .seen ≡ 2 → ⊥) → Adds d f y f
 unfolding Adds Kept collected
 third-stays d f y kept n m l e =
     sym kept ∙ ap (withSeen f) (sym (add-third (f .seen) n m l (f .highest) 0 (f .best) y d e))
@@ -73,7 +79,8 @@ flag-commit zero h i = absurd (h refl)
 flag-commit (suc zero) h i = absurd (i refl)
 flag-commit (suc (suc m)) h i = refl
 
-island-free : (a : Seen Figure) (d e : Flag) (k : ℕ) (y : Figure) → add figures (turnB e) a d 0 y ≡ add figures (turnB e) a d k y
+island-free : (a : Seen Figure) (d e : Flag) (k : ℕ) (y : Figure)
+    → add figures (turnB e) a d 0 y ≡ add figures (turnB e) a d k y
 unfolding add
 island-free nothing adopt e k y = refl
 island-free nothing commit e k y = refl

@@ -1,14 +1,11 @@
 // One register added to what a collect has seen, for each of the three arrays. An empty register adds nothing.
 // Relies on the model's declared types and on the order of figures; the listing's reads rely on it.
-pub mod marks;
-mod order;
-
-use marks::ADOPT;
+use figures::order::larger;
+use figures::order::pair_above;
+use figures::order::same;
 use model::Record;
 use model::Register;
-use order::larger;
-use order::pair_above;
-use order::same;
+use model::marks::ADOPT;
 ghost use mathlib.Core.Path.{_≡_};
 ghost use Rattle.model.specs.Listing.{Flag, turnM, turnA, turnB, adopt, commit};
 ghost use Rattle.collect.specs.Collected.{noting, Kept, seeing, Adds};

@@ -1,2 +1,4 @@
 -- Laws over plain variables.
+pub mod Order
 pub mod Signs
+pub mod Zeros

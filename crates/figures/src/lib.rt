@@ -1,5 +1,9 @@
-// Figures as bytes: four bytes, least significant first, in two's complement.
-// Relies on the crate model; the codec of registers and records, the test of a board and the packing of answers rely on it.
+// Figures as bytes: four bytes, least significant first, in two's complement. And their order.
+// Relies on the crate model; the codec of registers and records, the collects, the test of a board and the packing of
+// answers rely on it.
+pub mod order; // the order of figures and of pairs
+pub mod zeros; // two and four bytes that are zero
+
 ghost use mathlib.Core.Path.{_≡_};
 ghost use Prim.Native.Nat.{_+_, _%_, _≤_, _<_};
 ghost use lib.ListN.{length};

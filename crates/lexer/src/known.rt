@@ -1,5 +1,5 @@
 // A number that is known to stand at a place of a line: it was read there before, so that no range is left to test.
-// Relies on nothing; the walk over items relies on it.
+// Relies on nothing; the run of items relies on it.
 ghost use Rattle.lexer.specs.Known.{NumberStands, KnownIs};
 
 // The number and the place after it.

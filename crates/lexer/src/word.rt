@@ -3,8 +3,8 @@
 ghost use mathlib.Core.Path.{_≡_};
 ghost use Prim.Native.Nat.{_<_};
 ghost use lib.ListN.{length};
-ghost use Rattle.model.specs.Forms.{firstWord, formWord};
-ghost use Rattle.lexer.specs.Words.{WordEnd, PartIs, named, WordIs};
+ghost use Rattle.model.specs.Forms.{wordRows, rowIn, firstWord, formWord};
+ghost use Rattle.lexer.specs.Words.{WordEnd, PartIs, namedRow, WordIs};
 use check::same;
 
 pub enum FormWord {
@@ -62,7 +62,7 @@ pub fn first_word(line: &[u8]) -> &[u8]
 }
 
 pub fn form_named(word: &[u8]) -> Named
-    ensures { λ r. ⌜ r ≡ named (now (word .entry)) ⌝ }
+    ensures { λ r. ⌜ namedRow r ≡ rowIn wordRows (now (word .entry)) ⌝ }
 {
     if same(word, b"board") {
         return Named::Form {

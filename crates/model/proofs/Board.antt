@@ -1,6 +1,7 @@
 -- The layout and soundness: offsets, encodings, a board after a write, and what a sound board says of its values.
 pub mod Places
 pub mod Phases
+pub mod Changes
 pub mod Codec
 pub mod Canon
 pub mod Boards

@@ -1,51 +1,78 @@
--- Each wrong card differs from `step` on its board: both are computed, and one number of what they leave or answer differs.
+-- Each wrong card differs from `step` on its board: both are computed, and one byte of what they leave differs.
 -- Relies on the definitions alone.
-use mathlib.Core.Path.{_≡_, refl, sym, ap, _∙_}
-use mathlib.Core.Bool.{false}
-use Prim.Native.Nat.{ℕ}
-use lib.Dec.{eqb, eqb-refl}
-use lib.IntN.{natAbs}
+use Rattle.model.proofs.Kit.{_≡_, refl, sym, ap, _∙_, Bool, true, false, _&&_, not, List, [], _∷_, ℕ, eqb, T}
+use Rattle.model.proofs.Kit.{eqb-refl}
 use Rattle.model.specs.Bytes.{byte}
 use Rattle.model.specs.Figure.{Figure}
-use Rattle.model.specs.Listing.{Answer, wrote, read, went, marked, adopted, decided, spent, refused}
+use Rattle.model.specs.Listing.{Answer}
 use Rattle.model.specs.Calls.{After, RunAnswer, ran, notRun}
 use Rattle.model.specs.Bytes.{number as bytesNumber, digits, part, splice, zeros, every, implies}
 use Rattle.model.specs.Figure.{figure, figureBytes, sameFigure, above, figures}
-use Rattle.model.specs.Listing.{array, placeArray, placeColumn, accepted, entry, proposed, stay, onward, finish, ended, larger, pairAbove, add, see, move}
+use Rattle.model.specs.Listing.{array, placeArray, placeColumn, accepted, outcome, entry, proposed, stay, onward}
+use Rattle.model.specs.Listing.{finish, ended, larger, pairAbove, add, see, move}
 use Rattle.model.specs.Listing.{flagOf, flagNumber}
-use Rattle.model.specs.Layout.{boardLength, rowOf, registerAt, recordAt, freshBoard, readRegister, layRegister, registerFields, registerValue, seenNumber}
-use Rattle.model.specs.Layout.{bestIsland, bestFigure, seenOf, writePhase, flagByte, readRecord, layRecord, fields, recordFields, recordValue, writingOf, readingOf}
+use Rattle.model.specs.Layout.{boardLength, rowOf, registerAt, recordAt, freshBoard, readRegister, layRegister}
+use Rattle.model.specs.Layout.{registerFields, registerValue, seenNumber}
+use Rattle.model.specs.Layout.{bestIsland, bestFigure, seenOf, writePhase, flagByte, readRecord, layRecord}
+use Rattle.model.specs.Layout.{fields, recordFields, recordValue, writingOf, readingOf}
 use Rattle.model.specs.Layout.{ofPhase, registerOf, recordOf, stationOf}
-use Rattle.model.specs.Sound.{headSound, registerSound, arraySound, registersSound, collecting, phaseKnown, positionInside, islandInside}
-use Rattle.model.specs.Sound.{bestInside, flagKnown, restZero, idleZero, collectZero, bestIslandZero, bestZero, seenKnown, sameRegister}
+use Rattle.model.specs.Sound.{headSound, registerSound, arraySound, registersSound, collecting, phaseKnown}
+use Rattle.model.specs.Sound.{positionInside, islandInside}
+use Rattle.model.specs.Sound.{bestInside, flagKnown, restZero, idleZero, collectZero, bestIslandZero, bestZero}
+use Rattle.model.specs.Sound.{seenKnown, sameRegister}
 use Rattle.model.specs.Sound.{ownWritten, ownSeen, ownPassed, fieldsSound, recordSound, sound}
-use Rattle.model.specs.Calls.{unless, shapeRefusal, stations, islands, boardRefusal, stationRefusal, stationAt, unlessRefused, lay, putStation}
-use Rattle.model.specs.Calls.{putRegister, notIdle, propose, notGoing, access, stepped, stepOn, step, ranFrom, run}
+use Rattle.model.specs.Calls.{unless, ranges, shapeRefusal, stations, islands, boardRefusal, stationRefusal}
+use Rattle.model.specs.Calls.{stationAt}
+use Rattle.model.specs.Calls.{unlessRefused, lay, putStation}
+use Rattle.model.specs.Calls.{putRegister, notIdle, propose, notGoing, access, stepped, stepOn, step, ranFrom}
+use Rattle.model.specs.Calls.{run}
 use Rattle.model.specs.Runs.{after}
-use Rattle.model.specs.Cards.{ShutOut, AllDiffer, rows, movedBy, by, listing, ending, refusesAll, leavesIdle, zeroAt, seeAll, wholeAtFirst, spentAt, wholeInOne, oldAt, ownIslandAt, counted, emptiesCounted, ownLargestAt, presentAt, proposeAll, boardAfter}
-use Rattle.model.proofs.Basics.Tests.{clash, T-true}
+use Rattle.model.specs.Cards.{ShutOut, Row, AllDiffer, rows, movedBy, by, listing, ending, refusesAll, leavesIdle}
+use Rattle.model.specs.Cards.{zeroAt, seeAll, wholeAtFirst, spentAt, wholeInOne, oldAt, ownIslandAt, counted}
+use Rattle.model.specs.Cards.{emptiesCounted, ownLargestAt, presentAt, proposeAll, boardAfter}
+use Rattle.model.proofs.Basics.Tests.{clash, T-true, T-false, and-l, and-r}
 
 unlike : {A : Type 0} (look : A → ℕ) (a b : A) → eqb (look a) (look b) ≡ false → a ≡ b → ⊥
-unlike look a b e p = clash (sym (T-true (eqb (look a) (look a)) (eqb-refl (look a))) ∙ ap (λ (x : _). eqb (look a) (look x)) p ∙ e)
+unlike look a b e p =
+    clash (sym (T-true (eqb (look a) (look a)) (eqb-refl (look a))) ∙ ap (λ (x : _). eqb (look a) (look x)) p ∙ e)
 
--- what is looked at: the answer's kind, its figure and its flag, or a byte of the board
-kind : After (Answer Figure) → ℕ
-kind a = elim (a .answer) [ wrote ↦ 1 | read ↦ 2 | went c x ↦ 3 | marked f x ↦ 4 | adopted c x ↦ 5 | decided c x ↦ 6 | spent c x ↦ 7 | refused k ↦ 0 ]
-
-size : After (Answer Figure) → ℕ
-size a =
-    elim (a .answer) [ wrote ↦ 0 | read ↦ 0 | went c x ↦ natAbs x | marked f x ↦ natAbs x | adopted c x ↦ natAbs x | decided c x ↦ natAbs x | spent c x ↦ natAbs x | refused k ↦ 0 ]
-
-flag : After (Answer Figure) → ℕ
-flag a = elim (a .answer) [ wrote ↦ 0 | read ↦ 0 | went c x ↦ 0 | marked f x ↦ f | adopted c x ↦ 0 | decided c x ↦ 0 | spent c x ↦ 0 | refused k ↦ 0 ]
-
+-- at the byte k of its board each card leaves something else than the step
 at : ℕ → After (Answer Figure) → ℕ
 at k a = byte (a .bytes) k
+
+same : ℕ → Row → Bool
+same k r = eqb (at k (r .card (r .station) (r .board))) (at k (step (r .station) (r .board)))
+
+different : (ks : List ℕ) → List Row → Bool
+different ks [] = true
+different [] (r ∷ rs) = false
+different (k ∷ ks) (r ∷ rs) = not (same k r) && different ks rs
+
+all-differ : (ks : List ℕ) (rs : List Row) → T (different ks rs) → AllDiffer rs
+unfolding AllDiffer different same
+all-differ ks [] t = tt
+all-differ [] (r ∷ rs) t = absurd t
+all-differ (k ∷ ks) (r ∷ rs) t = (
+  unlike (at k) _ _ (T-false (same k r) (and-l (not (same k r)) (different ks rs) t)),
+  all-differ ks rs (and-r (not (same k r)) (different ks rs) t),
+)
 
 taken : RunAnswer → ℕ
 taken (ran s t) = s
 taken (notRun k) = 0
 
 pub shut-out : ShutOut
-unfolding ShutOut AllDiffer rows kind size flag at taken movedBy by listing ending refusesAll leavesIdle zeroAt seeAll wholeAtFirst spentAt wholeInOne oldAt ownIslandAt counted emptiesCounted ownLargestAt presentAt proposeAll boardAfter after bytesNumber digits part splice zeros every implies figure figureBytes sameFigure above figures array placeArray placeColumn accepted entry proposed stay onward finish ended larger pairAbove add see move flagOf flagNumber boardLength rowOf registerAt recordAt freshBoard readRegister layRegister registerFields registerValue seenNumber bestIsland bestFigure seenOf writePhase flagByte readRecord layRecord fields recordFields recordValue writingOf readingOf ofPhase registerOf recordOf stationOf headSound registerSound arraySound registersSound collecting phaseKnown positionInside islandInside bestInside flagKnown restZero idleZero collectZero bestIslandZero bestZero seenKnown sameRegister ownWritten ownSeen ownPassed fieldsSound recordSound sound unless shapeRefusal stations islands boardRefusal stationRefusal stationAt unlessRefused lay putStation putRegister notIdle propose notGoing access stepped stepOn step ranFrom run
-shut-out = ((unlike kind _ _ refl, (unlike (at 8) _ _ refl, (unlike size _ _ refl, (unlike (at 104) _ _ refl, (unlike kind _ _ refl, (unlike kind _ _ refl, (unlike kind _ _ refl, (unlike size _ _ refl, (unlike (at 178) _ _ refl, (unlike flag _ _ refl, (unlike flag _ _ refl, tt))))))))))), unlike taken _ _ refl)
+unfolding ShutOut AllDiffer rows at same different taken movedBy by listing ending refusesAll leavesIdle zeroAt seeAll
+    wholeAtFirst
+    spentAt wholeInOne oldAt ownIslandAt counted emptiesCounted ownLargestAt presentAt proposeAll boardAfter after
+    bytesNumber digits part splice zeros every implies figure figureBytes sameFigure above figures array placeArray
+    placeColumn accepted outcome entry proposed stay onward finish ended larger pairAbove add see move flagOf flagNumber
+    boardLength rowOf registerAt recordAt freshBoard readRegister layRegister registerFields registerValue seenNumber
+    bestIsland bestFigure seenOf writePhase flagByte readRecord layRecord fields recordFields recordValue writingOf
+    readingOf ofPhase registerOf recordOf stationOf headSound registerSound arraySound registersSound collecting
+    phaseKnown positionInside islandInside bestInside flagKnown restZero idleZero collectZero bestIslandZero bestZero
+    seenKnown sameRegister ownWritten ownSeen ownPassed fieldsSound recordSound sound unless ranges shapeRefusal
+    stations
+    islands boardRefusal stationRefusal stationAt unlessRefused lay putStation putRegister notIdle propose notGoing
+    access stepped stepOn step ranFrom run
+shut-out = (all-differ (8 ∷ 8 ∷ 60 ∷ 104 ∷ 88 ∷ 112 ∷ 112 ∷ 164 ∷ 178 ∷ 93 ∷ 93 ∷ []) rows tt, unlike taken _ _ refl)

@@ -1,4 +1,5 @@
 -- Theorems about the definitions of specs/. Nothing here needs to be believed; all of it is checked.
+pub mod Kit
 pub mod Basics
 pub mod Board
 pub mod Listing

@@ -1,6 +1,7 @@
 -- One access of the listing: what a read and a move keep.
 pub mod Collect
 pub mod Sets
+pub mod Cases
 pub mod Written
 pub mod Order
 pub mod Met

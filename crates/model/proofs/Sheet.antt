@@ -5,7 +5,9 @@ pub mod Numbers
 pub mod NumbersBack
 pub mod Written
 pub mod WrittenBack
-pub mod Lines
-pub mod Calls
+pub mod Printed
+pub mod PlayedLines
+pub mod EachForm
+pub mod ListOfCalls
 pub mod Fits
 pub mod Limits

@@ -7,7 +7,8 @@ use mir.Syntax.{w32}
 use mir.Val.{SFits}
 use Rattle.model.specs.Figure.{Figure}
 use Rattle.model.specs.Layout.{freshBoard}
-use Rattle.model.specs.Listing.{Answer, wrote, read, went, marked, adopted, decided, spent, refused, accepted}
+use Rattle.model.specs.Listing.{Answer, decided, refused, Outcome, goes-on, comes-to-end, is-refused, outcome}
+use Rattle.model.specs.Listing.{accepted}
 use Rattle.model.specs.Calls.{After, lay, propose, step}
 
 -- "It holds proposals and single steps, with any station numbers and figures .. refused ones, and refused layings, may
@@ -43,8 +44,8 @@ unfoldable pub Some : (Call → List ℕ → Type 0) → List Call → List ℕ 
 Some P [] b = ⊥
 Some P (c ∷ cs) b = P c b ⊎ Some P cs (called c b)
 
--- "By the calls of the list, a station *proposed* v if its proposal of v was accepted, *took a step* if a step of it was
--- accepted, and *made a decision* for v if a step of it answered *decided* (c, v), on whatever island."
+-- "By the calls of the list, a station *proposed* v if its proposal of v was accepted, *took a step* if a step of it
+-- was accepted, and *made a decision* for v if a step of it answered *decided* (c, v), on whatever island."
 module _ (i : ℕ) where
   unfoldable pub Proposes : Figure → Call → List ℕ → Type 0
   Proposes v c b = (c ≡ proposing i v) × (propose i v b .answer ≡ none)
@@ -56,18 +57,11 @@ module _ (i : ℕ) where
   Decides v c b = (c ≡ stepping i) × ((k : ℕ) × (step i b .answer ≡ decided k v))
 
 -- the answers after which a station is stepped no more
-unfoldable pub ends : Answer Figure → Bool
-ends wrote = false
-ends read = false
-ends (went c x) = false
-ends (marked f x) = false
-ends (adopted c x) = false
-ends (decided c x) = true
-ends (spent c x) = true
-ends (refused k) = true
+unfoldable pub ends : {F : Type 0} → Answer F → Bool
+ends a = elim (outcome a) [ goes-on ↦ false | comes-to-end ↦ true | is-refused ↦ true ]
 
--- "the station is stepped until a step of it answers *decided* or *spent*". The fuel bounds the steps; `Demand3` asks for
--- every fuel from 6(n + 1) on, so that it never runs out.
+-- "the station is stepped until a step of it answers *decided* or *spent*". The fuel bounds the steps; `Demand3` asks
+-- for every fuel from 6(n + 1) on, so that it never runs out.
 unfoldable pub until : (fuel i : ℕ) → List ℕ → After (Answer Figure)
 until zero i b = record { answer = refused 0; bytes = b }
 until (suc fuel) i b = elim (ends (step i b .answer)) [ true ↦ step i b | false ↦ until fuel i (step i b .bytes) ]
@@ -77,15 +71,16 @@ pub record Seat : Type 0 where
   pub station : ℕ
   pub figure : Figure
 
--- "For each station in turn, the figure it proposed in the list is proposed and the station is stepped until ..; then the
--- next begins."
+-- "For each station in turn, the figure it proposed in the list is proposed and the station is stepped until ..; then
+-- the next begins."
 unfoldable pub turn : (fuel : ℕ) → Seat → List ℕ → After (Answer Figure)
 turn fuel s b = until fuel (s .station) (propose (s .station) (s .figure) b .bytes)
 
 -- every station that the order names answers *decided* with v
 unfoldable pub EachDecides : (fuel : ℕ) (v : Figure) → List Seat → List ℕ → Type 0
 EachDecides fuel v [] b = Unit {0}
-EachDecides fuel v (s ∷ ss) b = ((k : ℕ) × (turn fuel s b .answer ≡ decided k v)) × EachDecides fuel v ss (turn fuel s b .bytes)
+EachDecides fuel v (s ∷ ss) b =
+    ((k : ℕ) × (turn fuel s b .answer ≡ decided k v)) × EachDecides fuel v ss (turn fuel s b .bytes)
 
 unfoldable pub Among : ℕ → List Seat → Type 0
 Among i [] = ⊥
@@ -109,14 +104,16 @@ pub record Ordered (n K : ℕ) (b : List ℕ) (cs : List Call) (v : Figure) : Ty
   pub figures : AsProposed cs b order
   pub decides : (fuel : ℕ) → 6 * (n + 1) ≤ fuel → EachDecides fuel v order (freshBoard n K)
 
--- "Demand 3 is one claim on the list as a whole": one decided figure, proposed by a station that took a step, and "with a
--- decision for v in the list, some such order has every station that it names answer *decided* with v".
+-- "Demand 3 is one claim on the list as a whole": one decided figure, proposed by a station that took a step, and "with
+-- a decision for v in the list, some such order has every station that it names answer *decided* with v".
 pub record Demand3 (n K : ℕ) (b : List ℕ) (cs : List Call) : Type 0 where
   pub agreement : (i j : ℕ) (v w : Figure) → Some (Decides i v) cs b → Some (Decides j w) cs b → v ≡ w
-  pub validity : (i : ℕ) (v : Figure) → Some (Decides i v) cs b → (j : ℕ) × Some (Proposes j v) cs b × Some (Steps j) cs b
+  pub validity : (i : ℕ) (v : Figure) → Some (Decides i v) cs b
+      → (j : ℕ) × Some (Proposes j v) cs b × Some (Steps j) cs b
   pub sequential : (i : ℕ) (v : Figure) → Some (Decides i v) cs b → Ordered n K b cs v
 
 -- "The list starts from the board as an accepted laying of n and K leaves it", whatever was lent to it.
 unfoldable pub AnyList : Type 0
-AnyList = (n K : ℕ) (lent : List ℕ) → lay n K lent .answer ≡ none → (cs : List Call) → AllAllowed cs (lay n K lent .bytes)
+AnyList =
+    (n K : ℕ) (lent : List ℕ) → lay n K lent .answer ≡ none → (cs : List Call) → AllAllowed cs (lay n K lent .bytes)
     → Demand3 n K (lay n K lent .bytes) cs

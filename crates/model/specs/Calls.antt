@@ -1,10 +1,14 @@
--- The calls: for each, the refusals in 01's order, then the answer and the bytes afterwards, from what is lent and given.
+-- The calls: for each, the refusals in 01's order, then the answer and the bytes afterwards, from what is lent and
+-- given.
 -- Relies on all definitions but the shown line; every public contract is an equation with one of these.
-use Rattle.model.specs.Kit.{Bool, true, false, _&&_, cond, List, [], _∷_, Option, none, some, ℕ, _+_, _-_, eqb, leb, length}
+use Rattle.model.specs.Kit.{Bool, true, false, _&&_, cond, List, [], _∷_, Option, none, some, ℕ, _+_, _-_, eqb}
+use Rattle.model.specs.Kit.{leb, length}
 use Rattle.model.specs.Bytes.{byte, splice}
 use Rattle.model.specs.Figure.{Figure, figures}
-use Rattle.model.specs.Listing.{Register, Stage, writing, reading, has-decided, is-spent, Station, idle, active, Answer, refused, accepted, Array, placeArray, placeColumn, proposed, move}
-use Rattle.model.specs.Layout.{boardLength, registerAt, recordAt, freshBoard, layRegister, registerFields, layRecord, recordFields, registerOf, stationOf}
+use Rattle.model.specs.Listing.{Register, Stage, writing, reading, has-decided, is-spent, Station, idle, active}
+use Rattle.model.specs.Listing.{Answer, refused, accepted, Array, placeArray, placeColumn, proposed, move}
+use Rattle.model.specs.Layout.{boardLength, registerAt, recordAt, freshBoard, layRegister, registerFields}
+use Rattle.model.specs.Layout.{layRecord, recordFields, registerOf, stationOf}
 use Rattle.model.specs.Sound.{sound}
 
 -- What a call answers, and the bytes of the lent board as it returns.
@@ -21,12 +25,22 @@ unfoldable pub unless : Bool → ℕ → Refusal → Refusal
 unless true number later = later
 unless false number later = some number
 
+-- Which n and which K are in range.
+pub record Ranges : Type 0 where
+  pub stationsIn : ℕ → Bool
+  pub islandsIn : ℕ → Bool
+
+-- "n is not 1 to 16 (n and K as given when laying, else from the head)"; "K is not 2 to 64"
+unfoldable pub ranges : Ranges
+ranges = record { stationsIn = λ n. leb 1 n && leb n 16; islandsIn = λ K. leb 2 K && leb K 64 }
+
 -- "7. The lent board is shorter than 8 bytes. 8. n is not 1 to 16. 9. K is not 2 to 64. 10. The board's length does not
--- match n and K."
-unfoldable pub shapeRefusal : (n K : ℕ) → List ℕ → Refusal → Refusal
-shapeRefusal n K b later =
+-- match n and K.", 8 and 9 for the ranges that are asked for
+unfoldable pub shapeRefusal : Ranges → (n K : ℕ) → List ℕ → Refusal → Refusal
+shapeRefusal asked n K b later =
     unless (leb 8 (length b)) 7
-    (unless (leb 1 n && leb n 16) 8 (unless (leb 2 K && leb K 64) 9 (unless (eqb (length b) (boardLength n K)) 10 later)))
+    (unless (asked .stationsIn n) 8 (unless (asked .islandsIn K) 9
+    (unless (eqb (length b) (boardLength n K)) 10 later)))
 
 -- n and K "from the head"
 unfoldable pub stations : List ℕ → ℕ
@@ -37,7 +51,8 @@ islands b = byte b 1
 
 -- 7 to 10, then "11. The board is not sound."
 unfoldable pub boardRefusal : List ℕ → Refusal → Refusal
-boardRefusal b later = shapeRefusal (stations b) (islands b) b (unless (sound (stations b) (islands b) b) 11 later)
+boardRefusal b later =
+    shapeRefusal ranges (stations b) (islands b) b (unless (sound (stations b) (islands b) b) 11 later)
 
 -- "12. The station number is 0 or above n."
 unfoldable pub stationRefusal : (i : ℕ) → List ℕ → Refusal → Refusal
@@ -54,7 +69,7 @@ unlessRefused (some k) turnDown b ok = record { answer = turnDown k; bytes = b }
 
 -- "lays a fresh board"; "n and K as given when laying", soundness "not tested when laying"
 unfoldable pub lay : (n K : ℕ) → List ℕ → After Refusal
-lay n K b = unlessRefused (shapeRefusal n K b none) some b (record { answer = none; bytes = freshBoard n K })
+lay n K b = unlessRefused (shapeRefusal ranges n K b none) some b (record { answer = none; bytes = freshBoard n K })
 
 -- The two ways in which an accepted call changes bytes: the record of station index j, and the one register written.
 unfoldable pub putStation : (n K j : ℕ) → Station Figure → List ℕ → List ℕ

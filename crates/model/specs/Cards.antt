@@ -1,16 +1,20 @@
--- The wrong cards of 01's checklist and its forbidden shortcuts, each as a step on bytes, in one table: on a named board each answers
--- or leaves something else than `step` does, so none of them can meet the equation of a step.
+-- The wrong cards of 01's checklist and its forbidden shortcuts, each as a step on bytes, in one table: on a named
+-- board each answers or leaves something else than `step` does, so none of them can meet the equation of a step.
 -- Relies on the calls and the sheet; proofs/Cards.antt proves the one statement `ShutOut`.
 use Rattle.model.specs.Kit.{cond, List, [], _∷_, _++_, ℕ, zero, suc, _+_, _-_, ltb, replicate, pos, negsuc}
 use mathlib.Core.Path.{_≡_}
 use Rattle.model.specs.Figure.{Figure, figures}
-use Rattle.model.specs.Listing.{Register, empty, filled, Turn, turnM, turnA, turnB, first, second, third, Seen, nothing, seen, Stage, writing, reading, has-decided, is-spent}
-use Rattle.model.specs.Listing.{Station, idle, active, Answer, read, went, decided, spent, refused, Move, placeArray, placeColumn, stay, ended, finish, see, move}
+use Rattle.model.specs.Listing.{Register, empty, filled, Turn, turnM, turnA, turnB, first, second, third, Seen}
+use Rattle.model.specs.Listing.{nothing, seen, Stage, writing, reading, has-decided, is-spent}
+use Rattle.model.specs.Listing.{Station, idle, active, Answer, read, went, decided, spent, refused, Move}
+use Rattle.model.specs.Listing.{placeArray, placeColumn, stay, ended, finish, see, move}
 use Rattle.model.specs.Layout.{boardLength, registerOf}
-use Rattle.model.specs.Calls.{After, ran, stations, islands, stationAt, putRegister, putStation, lay, propose, step, run}
+use Rattle.model.specs.Calls.{After, ran, stations, islands, stationAt, putRegister, putStation, lay, propose}
+use Rattle.model.specs.Calls.{step, run}
 use Rattle.model.specs.Runs.{after}
 
--- ---- a card by the move that it makes, where `step` makes the listing's; it may look at every register of the collect's array
+-- ---- a card by the move that it makes, where `step` makes the listing's; it may look at every register of the
+-- collect's array
 
 abbrev pub CardMove : Type 0
 CardMove = (n K : ℕ) → Stage Figure → (own : ℕ) → (ℕ → Register Figure) → Move Figure
@@ -22,7 +26,10 @@ unfoldable pub movedBy : CardMove → (n K j : ℕ) → Station Figure → List 
 movedBy card n K j idle b = record { answer = refused 14; bytes = b }
 movedBy card n K j (active v s) b =
     let m = card n K s j (λ q. registerOf n (placeArray s) q b) in
-    record { answer = m .answer; bytes = putStation n K j (active v (m .stage)) (putRegister n (placeArray s) j (m .written) b) }
+    record {
+      answer = m .answer;
+      bytes = putStation n K j (active v (m .stage)) (putRegister n (placeArray s) j (m .written) b);
+    }
 
 unfoldable pub by : CardMove → Card
 by card i b = movedBy card (stations b) (islands b) (i - 1) (stationAt i b) b
@@ -68,7 +75,8 @@ unfoldable pub wholeAtFirst : CardMove
 wholeAtFirst n K (writing t c x) own regs = listing n K (writing t c x) own regs
 wholeAtFirst n K (reading t c x zero a) own regs =
     cond (ltb 1 n) (stay (reading t c x 1 (seeAll n t regs)) read) (ended K t c x (seeAll n t regs))
-wholeAtFirst n K (reading t c x (suc p) a) own regs = cond (ltb (p + 2) n) (stay (reading t c x (p + 2) a) read) (ended K t c x a)
+wholeAtFirst n K (reading t c x (suc p) a) own regs =
+    cond (ltb (p + 2) n) (stay (reading t c x (p + 2) a) read) (ended K t c x a)
 wholeAtFirst n K (has-decided c x) own regs = listing n K (has-decided c x) own regs
 wholeAtFirst n K (is-spent c x) own regs = listing n K (is-spent c x) own regs
 
@@ -116,7 +124,8 @@ unfoldable pub emptiesCounted : CardMove
 emptiesCounted n K (writing t c x) own regs = listing n K (writing t c x) own regs
 emptiesCounted n K (reading turnM c x p a) own regs = listing n K (reading turnM c x p a) own regs
 emptiesCounted n K (reading turnA c x p a) own regs =
-    cond (ltb (p + 1) n) (stay (reading turnA c x (p + 1) (counted a (regs p))) read) (ended K turnA c x (counted a (regs p)))
+    cond (ltb (p + 1) n) (stay (reading turnA c x (p + 1) (counted a (regs p))) read)
+    (ended K turnA c x (counted a (regs p)))
 emptiesCounted n K (reading (turnB f) c x p a) own regs = listing n K (reading (turnB f) c x p a) own regs
 emptiesCounted n K (has-decided c x) own regs = listing n K (has-decided c x) own regs
 emptiesCounted n K (is-spent c x) own regs = listing n K (is-spent c x) own regs
@@ -166,13 +175,25 @@ rows =
     ∷ record { card = by (ending spentAt); station = 2; board = boardAfter 2 2 (pos 7 ∷ pos 3 ∷ []) besideAdopt }
     ∷ record { card = by (ending presentAt); station = 2; board = boardAfter 2 2 (pos 7 ∷ pos 3 ∷ []) besideAdopt }
     -- station 1 has decided −40, and station 2 with 15 meets its commit in B
-    ∷ record { card = by (ending oldAt); station = 2; board = boardAfter 3 2 (negsuc 39 ∷ pos 15 ∷ []) (replicate 12 1 ++ replicate 11 2) }
+    ∷ record {
+      card = by (ending oldAt);
+      station = 2;
+      board = boardAfter 3 2 (negsuc 39 ∷ pos 15 ∷ []) (replicate 12 1 ++ replicate 11 2);
+    }
     -- and then has written m on island 1, where station 3 finds it
-    ∷ record { card = by (ending ownIslandAt); station = 3; board = boardAfter 3 2 (negsuc 39 ∷ pos 15 ∷ pos 5 ∷ []) (replicate 12 1 ++ replicate 13 2 ++ replicate 3 3) }
+    ∷ record {
+      card = by (ending ownIslandAt);
+      station = 3;
+      board = boardAfter 3 2 (negsuc 39 ∷ pos 15 ∷ pos 5 ∷ []) (replicate 12 1 ++ replicate 13 2 ++ replicate 3 3);
+    }
     -- station 1 alone reads a register of A that nobody has written
     ∷ record { card = by emptiesCounted; station = 1; board = boardAfter 2 2 (pos 7 ∷ pos 3 ∷ []) (replicate 5 1) }
     -- station 1 with 7 reads 3 beside it in A
-    ∷ record { card = by (ending ownLargestAt); station = 1; board = boardAfter 2 2 (pos 7 ∷ pos 3 ∷ []) (replicate 3 2 ++ replicate 3 1 ++ (2 ∷ 1 ∷ 1 ∷ [])) }
+    ∷ record {
+      card = by (ending ownLargestAt);
+      station = 1;
+      board = boardAfter 2 2 (pos 7 ∷ pos 3 ∷ []) (replicate 3 2 ++ replicate 3 1 ++ (2 ∷ 1 ∷ 1 ∷ []));
+    }
     ∷ []
   where
     besideAdopt : List ℕ

@@ -1,5 +1,5 @@
--- What 01 says of every call beside its equation: a refusal changes nothing, soundness is kept, a step is local and its answer
--- tells where the station stands.
+-- What 01 says of every call beside its equation: a refusal changes nothing, soundness is kept, a step is local and its
+-- answer tells where the station stands.
 -- Relies on the calls; proofs/Calls/Claims.antt proves each claim.
 use Rattle.model.specs.Kit.{false, List, [], _∷_, none, some, ℕ, _-_}
 use mathlib.Core.Path.{_≡_}
@@ -8,8 +8,10 @@ use mir.Val.{SFits}
 use Prim.Native.Nat.{_<_}
 use Rattle.model.specs.Bytes.{splice}
 use Rattle.model.specs.Figure.{Figure, figures}
-use Rattle.model.specs.Listing.{Flag, flagNumber, Turn, turnM, turnA, turnB, Seen, nothing, Register, empty, Stage, writing, reading, has-decided, is-spent, Station, idle, active}
-use Rattle.model.specs.Listing.{Answer, wrote, read, went, marked, adopted, decided, spent, refused, accepted, placeArray, placeColumn, move}
+use Rattle.model.specs.Listing.{Flag, flagNumber, Turn, turnM, turnA, turnB, Seen, nothing, Register, empty}
+use Rattle.model.specs.Listing.{Stage, writing, reading, has-decided, is-spent, Station, idle, active}
+use Rattle.model.specs.Listing.{Answer, wrote, read, went, marked, adopted, decided, spent, refused, accepted}
+use Rattle.model.specs.Listing.{placeArray, placeColumn, move}
 use Rattle.model.specs.Layout.{registerOf, recordOf, stationOf}
 use Rattle.model.specs.Calls.{After, notRun, stations, islands, boardRefusal, lay, propose, step, run}
 
@@ -34,8 +36,8 @@ pub record KeepSound : Type 0 where
   pub stepping : (i : ℕ) (b : List ℕ) → Passes b → Passes (step i b .bytes)
   pub running : (is b : List ℕ) → Passes b → Passes (run is b .bytes)
 
--- ---- "on a sound board, reached from a fresh one or not, its answer and the bytes it alters follow from n, K, the station's own
--- record .. and, where it reads, that one register"
+-- ---- "on a sound board, reached from a fresh one or not, its answer and the bytes it alters follow from n, K, the
+-- station's own record .. and, where it reads, that one register"
 
 -- the bytes put in at an offset
 pub record Change : Type 0 where
@@ -67,13 +69,14 @@ Reading (active v (reading t c x p a)) = Unit {0}
 Reading (active v (has-decided c x)) = ⊥
 Reading (active v (is-spent c x)) = ⊥
 
--- Two sound boards of one n and K that agree on the station's record and, where it reads, on the one register: one and the same
--- effect is what the step does to both.
+-- Two sound boards of one n and K that agree on the station's record and, where it reads, on the one register: one and
+-- the same effect is what the step does to both.
 unfoldable pub Local : Type 0
 Local =
     (n K i : ℕ) (b d : List ℕ) → Passes b → Passes d → stations b ≡ n → stations d ≡ n → islands b ≡ K → islands d ≡ K
     → recordOf n K (i - 1) b ≡ recordOf n K (i - 1) d
-    → (Reading (stationOf n K (i - 1) b) → touched n (i - 1) (stationOf n K (i - 1) b) b ≡ touched n (i - 1) (stationOf n K (i - 1) b) d)
+    → (Reading (stationOf n K (i - 1) b)
+    → touched n (i - 1) (stationOf n K (i - 1) b) b ≡ touched n (i - 1) (stationOf n K (i - 1) b) d)
     → (e : Effect) × (step i b ≡ apply e b) × (step i d ≡ apply e d)
 
 -- "touches no other station's record"; j is an index from 0
@@ -95,4 +98,6 @@ Tells (spent c x) s = s ≡ is-spent c x
 Tells (refused k) s = Unit {0}
 
 unfoldable pub AnswersTell : Type 0
-AnswersTell = (n K : ℕ) (s : Stage Figure) (r : Register Figure) → Tells (move figures n K s r .answer) (move figures n K s r .stage)
+AnswersTell =
+    (n K : ℕ) (s : Stage Figure) (r : Register Figure)
+    → Tells (move figures n K s r .answer) (move figures n K s r .stage)

@@ -1,10 +1,12 @@
--- The edges of the sheet's grammar as one table: a row is a line and what is read in it; and the limit of a line's steps.
--- Relies on the forms and the sheet; proofs/Sheet/Limits.antt proves the statements `Edges` and `StepsLimit`.
+-- The edges of the sheet's grammar as one table: a row is a line and what is read in it; and the limit of a line's
+-- steps. Relies on the forms and the sheet; proofs/Sheet/Limits.antt proves the statements `Edges` and `StepsLimit`.
 use Rattle.model.specs.Kit.{List, [], _∷_, _++_, none, ℕ, zero, suc, _+_, take, replicate, pos, negsuc}
 use mathlib.Core.Path.{_≡_}
+use mathlib.Core.List.{map}
 use Rattle.model.specs.Calls.{ran, boardRefusal}
 use Rattle.model.specs.Show.{text}
-use Rattle.model.specs.Forms.{station, times, Items, done, next, board, propose, steps, show, Reading, reads, unread, readLine}
+use Rattle.model.specs.Forms.{Form, station, times, Items, done, next, board, propose, steps, show, Reading}
+use Rattle.model.specs.Forms.{reads, unread, readLine}
 use Rattle.model.specs.Sheet.{ranText, turnedDown, playLine}
 
 -- what `(steps (times k 1))` holds
@@ -13,7 +15,7 @@ timesOne k = next (times k (next (station 1) done)) done
 
 pub record Row : Type 0 where
   pub line : List ℕ
-  pub reading : Reading
+  pub reading : Reading Form
 
 -- one item inside k brackets of `times`
 unfoldable pub deep : (k : ℕ) → Items
@@ -25,8 +27,14 @@ rows =
     -- "Nine open brackets give 3; eight do not", of a row of them and of a form
     record { line = text "((((((((("; reading = unread 3 }
     ∷ record { line = text "(((((((("; reading = unread 4 }
-    ∷ record { line = text "(steps (times 1 (times 1 (times 1 (times 1 (times 1 (times 1 (times 1 (times 1 1)))))))))"; reading = unread 3 }
-    ∷ record { line = text "(steps (times 1 (times 1 (times 1 (times 1 (times 1 (times 1 (times 1 1))))))))"; reading = reads (steps (deep 7)) }
+    ∷ record {
+      line = text "(steps (times 1 (times 1 (times 1 (times 1 (times 1 (times 1 (times 1 (times 1 1)))))))))";
+      reading = unread 3;
+    }
+    ∷ record {
+      line = text "(steps (times 1 (times 1 (times 1 (times 1 (times 1 (times 1 (times 1 1))))))))";
+      reading = reads (steps (deep 7));
+    }
     -- "opening brackets exceed closing ones by more than 8": a closing one before them counts
     ∷ record { line = text ")((((((((("; reading = unread 4 }
     ∷ record { line = text ")(((((((((("; reading = unread 3 }
@@ -57,7 +65,8 @@ rows =
     ∷ record { line = text " (show)"; reading = unread 4 }
     ∷ record { line = text "(show) "; reading = unread 4 }
     ∷ record { line = text "(steps(times 2 1))"; reading = unread 4 }
-    -- "`(steps item ..)`, perhaps with no item"; "`(times k item ..)`, which holds at least one item again, k from 1 to 99,999"
+    -- "`(steps item ..)`, perhaps with no item"; "`(times k item ..)`, which holds at least one item again, k from 1 to
+    -- 99,999"
     ∷ record { line = text "(steps)"; reading = reads (steps done) }
     ∷ record { line = text "(steps )"; reading = unread 4 }
     ∷ record { line = text "(steps ())"; reading = unread 4 }
@@ -73,19 +82,16 @@ rows =
     ∷ record { line = text "(Show)"; reading = unread 4 }
     ∷ []
 
-unfoldable pub Holds : List Row → Type 0
-Holds [] = Unit {0}
-Holds (r ∷ rs) = (readLine (r .line) ≡ r .reading) × Holds rs
-
--- Every row holds.
+-- Every row holds: what is read in its line is its reading.
 unfoldable pub Edges : Type 0
-Edges = Holds rows
+Edges = map (λ (r : Row). readLine (r .line)) rows ≡ map (λ (r : Row). r .reading) rows
 
--- "65,536 steps run; 65,537 give 6": on any sound board the first line prints S and T that are 65,536 together, and on any laid
--- board, sound or not, the second is refused.
+-- "65,536 steps run; 65,537 give 6": on any sound board the first line prints S and T that are 65,536 together, and on
+-- any laid board, sound or not, the second is refused.
 unfoldable pub StepsLimit : Type 0
 StepsLimit =
     (laid : ℕ) (m : List ℕ) → (laid ≡ 0 → ⊥)
     → (boardRefusal (take laid m) none ≡ none
-    → (s : ℕ) × (t : ℕ) × (playLine laid m (text "(steps (times 65536 1))") .printed ≡ ranText (ran s t)) × (s + t ≡ 65536))
+    → (s : ℕ) × (t : ℕ) × (playLine laid m (text "(steps (times 65536 1))") .printed ≡ ranText (ran s t))
+    × (s + t ≡ 65536))
     × (playLine laid m (text "(steps (times 65537 1))") ≡ turnedDown laid m 6)

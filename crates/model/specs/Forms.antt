@@ -1,6 +1,7 @@
 -- A line of a run sheet: 01's grammar as a reader that computes, and refusals 2 to 4.
 -- Relies on bytes, figures and texts; the sheet relies on it. Nothing here knows the board.
-use Rattle.model.specs.Kit.{Bool, true, false, not, cond, _&&_, _||_, List, [], _∷_, _++_, Option, none, some, ℕ, zero, suc, _+_, _*_, _-_, eqb, leb, ltb, length, drop, pos, negsuc}
+use Rattle.model.specs.Kit.{Bool, true, false, not, cond, _&&_, _||_, List, [], _∷_, _++_, Option, none, some, ℕ}
+use Rattle.model.specs.Kit.{zero, suc, _+_, _*_, _-_, eqb, leb, ltb, length, drop, pos, negsuc}
 use Rattle.model.specs.Bytes.{byte}
 use Rattle.model.specs.Figure.{Figure}
 use Rattle.model.specs.Calls.{unless}
@@ -68,16 +69,23 @@ unfoldable pub natural : List ℕ → Option (Read ℕ)
 natural [] = none
 natural (b ∷ l) = cond (eqb b 48) (found 0 l) (cond (digit b) (some (digitsFrom (b - 48) l)) none)
 
-unfoldable pub number : (low high : ℕ) → List ℕ → Option (Read ℕ)
-number low high l = andThen (natural l) λ v rest. cond (leb low v && leb v high) (found v rest) none
+unfoldable pub numberIn : (low high : ℕ) → List ℕ → Option (Read ℕ)
+numberIn low high l = andThen (natural l) λ v rest. cond (leb low v && leb v high) (found v rest) none
 
 -- "A figure is a signed 32-bit whole number; its full width is allowed"; "no −0"
 unfoldable pub figureIn : List ℕ → Option (Read Figure)
 figureIn l =
-    cond (eqb (byte l 0) 45) (andThen (number 1 2147483648 (drop 1 l)) λ v rest. found (negsuc (v - 1)) rest)
-    (andThen (number 0 2147483647 l) λ v rest. found (pos v) rest)
+    cond (eqb (byte l 0) 45) (andThen (numberIn 1 2147483648 (drop 1 l)) λ v rest. found (negsuc (v - 1)) rest)
+    (andThen (numberIn 0 2147483647 l) λ v rest. found (pos v) rest)
 
--- ---- items: fuel bounds the nesting and the number of items, and the bytes left are enough of it
+-- ---- texts
+
+-- two texts are the same
+unfoldable pub same : List ℕ → List ℕ → Bool
+same [] [] = true
+same [] (b ∷ l) = false
+same (a ∷ k) [] = false
+same (a ∷ k) (b ∷ l) = eqb a b && same k l
 
 -- the text w in front, and what follows it
 unfoldable pub behind : (w : List ℕ) → List ℕ → Option (List ℕ)
@@ -85,9 +93,12 @@ behind [] l = some l
 behind (w ∷ ws) [] = none
 behind (w ∷ ws) (b ∷ l) = cond (eqb w b) (behind ws l) none
 
--- "`(times k item ..)`, which holds at least one item again, k from 1 to 99,999": k, and from the space of the first item on
+-- ---- items: fuel bounds the nesting and the number of items, and the bytes left are enough of it
+
+-- "`(times k item ..)`, which holds at least one item again, k from 1 to 99,999": k, and from the space of the first
+-- item on
 unfoldable pub timesIn : List ℕ → Option (Read ℕ)
-timesIn l = elim (behind (text "(times ") l) [ none ↦ none | some rest ↦ andThen (number 1 99999 rest) spaceAfter ]
+timesIn l = elim (behind (text "(times ") l) [ none ↦ none | some rest ↦ andThen (numberIn 1 99999 rest) spaceAfter ]
   where
     spaceAfter : ℕ → List ℕ → Option (Read ℕ)
     spaceAfter k rest = cond (eqb (byte rest 0) 32) (found k rest) none
@@ -96,8 +107,9 @@ unfoldable mutual
   pub itemIn : (fuel : ℕ) → List ℕ → Option (Read Item)
   itemIn zero l = none
   itemIn (suc fuel) l =
-      cond (eqb (byte l 0) 40) (andThen (timesIn l) λ k inner. andThen (itemsIn fuel inner) λ is rest. found (times k is) rest)
-      (andThen (number 0 99 l) λ i rest. found (station i) rest)
+      cond (eqb (byte l 0) 40)
+      (andThen (timesIn l) λ k inner. andThen (itemsIn fuel inner) λ is rest. found (times k is) rest)
+      (andThen (numberIn 0 99 l) λ i rest. found (station i) rest)
 
   -- items, each behind a space, up to the closing bracket
   pub itemsIn : (fuel : ℕ) → List ℕ → Option (Read Items)
@@ -108,19 +120,46 @@ unfoldable mutual
 
 -- ---- the forms by their words
 
-pub data Word : Type 0 where
-  boardWord proposeWord stepsWord showWord : Word
+-- the bracket that ends the line
+unfoldable pub closing : Form → List ℕ → Option Form
+closing f l = cond (same l (text ")")) (some f) none
 
-unfoldable pub same : List ℕ → List ℕ → Bool
-same [] [] = true
-same [] (b ∷ l) = false
-same (a ∷ k) [] = false
-same (a ∷ k) (b ∷ l) = eqb a b && same k l
+-- The word that names a form, and the reader of what follows it.
+pub record WordRow : Type 0 where
+  pub word : List ℕ
+  pub reader : List ℕ → Option Form
 
-unfoldable pub wordOf : List ℕ → Option Word
-wordOf w =
-    cond (same w (text "board")) (some boardWord) (cond (same w (text "propose")) (some proposeWord)
-    (cond (same w (text "steps")) (some stepsWord) (cond (same w (text "show")) (some showWord) none)))
+-- `(board n K)`, `(propose i v)`, `(steps item ..)`, `(show)`; "n, K and stations are 0 to 99"
+unfoldable pub boardRow : WordRow
+boardRow = record {
+  word = text "board";
+  reader = λ l. andThen (spaced (numberIn 0 99) l) λ n k.
+      andThen (spaced (numberIn 0 99) k) λ K rest. closing (board n K) rest;
+}
+
+unfoldable pub proposeRow : WordRow
+proposeRow = record {
+  word = text "propose";
+  reader =
+      λ l. andThen (spaced (numberIn 0 99) l) λ i k. andThen (spaced figureIn k) λ v rest. closing (propose i v) rest;
+}
+
+unfoldable pub stepsRow : WordRow
+stepsRow = record {
+  word = text "steps";
+  reader = λ l. andThen (itemsIn (length l + 1) l) λ is rest. cond (same rest []) (some (steps is)) none;
+}
+
+unfoldable pub showRow : WordRow
+showRow = record { word = text "show"; reader = closing show }
+
+unfoldable pub wordRows : List WordRow
+wordRows = boardRow ∷ proposeRow ∷ stepsRow ∷ showRow ∷ []
+
+-- the row of a word
+unfoldable pub rowIn : List WordRow → (word : List ℕ) → Option WordRow
+rowIn [] w = none
+rowIn (r ∷ rs) w = cond (same w (r .word)) (some r) (rowIn rs w)
 
 -- "ends before a space, a bracket or the line's end"
 unfoldable pub upToStop : List ℕ → List ℕ
@@ -135,21 +174,14 @@ firstWord (b ∷ l) = cond (eqb b 40) (upToStop l) []
 -- "The word that names a form .. bytes there that are no form's word count as none, and what follows the word does not
 -- matter."
 unfoldable pub formWord : List ℕ → List ℕ
-formWord l = elim (wordOf (firstWord l)) [ none ↦ [] | some w ↦ firstWord l ]
+formWord l = elim (rowIn wordRows (firstWord l)) [ none ↦ [] | some r ↦ firstWord l ]
 
--- the bracket that ends the line
-unfoldable pub closing : Form → List ℕ → Option Form
-closing f l = cond (same l (text ")")) (some f) none
-
--- what follows each word: `(board n K)`, `(propose i v)`, `(steps item ..)`, `(show)`; "n, K and stations are 0 to 99"
-unfoldable pub formAfter : Word → List ℕ → Option Form
-formAfter boardWord l = andThen (spaced (number 0 99) l) λ n k. andThen (spaced (number 0 99) k) λ K rest. closing (board n K) rest
-formAfter proposeWord l = andThen (spaced (number 0 99) l) λ i k. andThen (spaced figureIn k) λ v rest. closing (propose i v) rest
-formAfter stepsWord l = andThen (itemsIn (length l + 1) l) λ is rest. cond (same rest []) (some (steps is)) none
-formAfter showWord l = closing show l
+-- how many bytes the opening bracket and the word are: what follows them begins at this place
+unfoldable pub wordPlace : List ℕ → ℕ
+wordPlace l = length (firstWord l) + 1
 
 unfoldable pub formIn : List ℕ → Option Form
-formIn l = elim (wordOf (firstWord l)) [ none ↦ none | some w ↦ formAfter w (drop (length (firstWord l) + 1) l) ]
+formIn l = elim (rowIn wordRows (firstWord l)) [ none ↦ none | some r ↦ r .reader (drop (wordPlace l) l) ]
 
 -- ---- the line
 
@@ -162,15 +194,20 @@ unfoldable pub tooDeep : (o c : ℕ) → List ℕ → Bool
 tooDeep o c [] = false
 tooDeep o c (b ∷ l) = ltb (c + one 41 b + 8) (o + one 40 b) || tooDeep (o + one 40 b) (c + one 41 b) l
 
-pub data Reading : Type 0 where
-  reads : Form → Reading
-  unread : (number : ℕ) → Reading
+-- what a reader answers: what it found, or a refusal by its number
+pub data Reading (A : Type 0) : Type 0 where
+  reads : A → Reading A
+  unread : (number : ℕ) → Reading A
 
--- "4. The line is none of the forms, or a number is outside its range."
-unfoldable pub orFour : Option Form → Reading
+-- "4. The line is none of the forms, or a number is outside its range.": the refusal where nothing was found
+unfoldable pub orFour : {A : Type 0} → Option A → Reading A
 orFour none = unread 4
-orFour (some f) = reads f
+orFour (some a) = reads a
 
 -- "2. The line is longer than 255 bytes before its LF. 3. At some byte, .."
-unfoldable pub readLine : List ℕ → Reading
-readLine l = elim (unless (leb (length l) 255) 2 (unless (not (tooDeep 0 0 l)) 3 none)) [ none ↦ orFour (formIn l) | some k ↦ unread k ]
+unfoldable pub readLine : List ℕ → Reading Form
+readLine l =
+    elim (unless (leb (length l) 255) 2 (unless (not (tooDeep 0 0 l)) 3 none)) [
+      | none ↦ orFour (formIn l)
+      | some k ↦ unread k
+    ]

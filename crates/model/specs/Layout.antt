@@ -1,11 +1,13 @@
 -- The board: where its parts stand, and a register and a record as bytes and back.
--- Relies on Bytes, Figure and the listing's values; soundness and the calls rely on it. Nothing here knows the algorithm.
-use Rattle.model.specs.Kit.{List, [], _∷_, _++_, ℕ, zero, suc, _+_, _*_, _-_, replicate, pos}
+-- Relies on Bytes, Figure and the listing's values; soundness and the calls rely on it. It knows no algorithm.
+use Rattle.model.specs.Kit.{cond, List, [], _∷_, _++_, ℕ, zero, suc, _+_, _*_, _-_, eqb, replicate, pos}
 use Rattle.model.specs.declared.Record.{Record}
 use Rattle.model.specs.declared.Register as Fields
-use Rattle.model.specs.Bytes.{byte, part}
+use Rattle.model.specs.Bytes.{byte, part, splice}
 use Rattle.model.specs.Figure.{Figure, figure, figureBytes}
-use Rattle.model.specs.Listing.{Turn, turnM, turnA, turnB, first, second, third, Array, inM, inA, inB, Register, empty, filled, Seen, nothing, seen, writing, reading, has-decided, is-spent, Station, idle, active, flagOf, flagNumber}
+use Rattle.model.specs.Listing.{Turn, turnM, turnA, turnB, first, second, third, Array, inM, inA, inB, Register}
+use Rattle.model.specs.Listing.{empty, filled, Seen, nothing, seen, writing, reading, has-decided, is-spent}
+use Rattle.model.specs.Listing.{Station, idle, active, flagOf, flagNumber}
 
 -- "Length is exactly 8 + 32n + 16nK"
 unfoldable pub boardLength : (n K : ℕ) → ℕ
@@ -98,6 +100,56 @@ layRecord f =
     (f .phase ∷ f .position ∷ f .island ∷ f .seen ∷ f .highest ∷ f .flag ∷ 0 ∷ 0 ∷ [])
     ++ figureBytes (f .proposal) ++ figureBytes (f .carried) ++ figureBytes (f .best) ++ replicate 4 0
 
+-- One field of a record with the value that it comes to have.
+pub data Change : Type 0 where
+  phaseIs positionIs islandIs seenIs highestIs flagIs : ℕ → Change
+  proposalIs carriedIs bestIs : Figure → Change
+
+-- Where it stands among the record's bytes, as laid above: a byte, or a figure's four bytes, at an offset.
+pub data Stored : Type 0 where
+  byteAt : (offset value : ℕ) → Stored
+  figureAt : (offset : ℕ) → Figure → Stored
+
+abbrev pub stored : Change → Stored
+stored (phaseIs h) = byteAt 0 h
+stored (positionIs p) = byteAt 1 p
+stored (islandIs c) = byteAt 2 c
+stored (seenIs g) = byteAt 3 g
+stored (highestIs k) = byteAt 4 k
+stored (flagIs f) = byteAt 5 f
+stored (proposalIs v) = figureAt 8 v
+stored (carriedIs x) = figureAt 12 x
+stored (bestIs y) = figureAt 16 y
+
+-- what the field at an offset holds afterwards, which held x before
+abbrev pub byteAfter : Stored → (offset x : ℕ) → ℕ
+byteAfter (byteAt k y) at x = cond (eqb k at) y x
+byteAfter (figureAt k y) at x = x
+
+abbrev pub figureAfter : Stored → (offset : ℕ) (x : Figure) → Figure
+figureAfter (byteAt k y) at x = x
+figureAfter (figureAt k y) at x = cond (eqb k at) y x
+
+-- A record with some of its fields changed, one change after another; every other field is as it was.
+abbrev pub change : Stored → Record → Record
+change s f =
+    asRecord (byteAfter s 0 (f .phase)) (byteAfter s 1 (f .position)) (byteAfter s 2 (f .island))
+    (byteAfter s 3 (f .seen)) (byteAfter s 4 (f .highest)) (byteAfter s 5 (f .flag))
+    (figureAfter s 8 (f .proposal)) (figureAfter s 12 (f .carried)) (figureAfter s 16 (f .best))
+
+unfoldable pub changed : List Change → Record → Record
+changed [] f = f
+changed (c ∷ cs) f = changed cs (change (stored c) f)
+
+-- and its bytes, at offset `at` of the bytes b: those of the changed fields are put in, every other byte stays
+abbrev pub store : Stored → (at : ℕ) → List ℕ → List ℕ
+store (byteAt k x) at b = splice (at + k) (x ∷ []) b
+store (figureAt k v) at b = splice (at + k) (figureBytes v) b
+
+unfoldable pub putChanges : List Change → (at : ℕ) → List ℕ → List ℕ
+putChanges [] at b = b
+putChanges (c ∷ cs) at b = putChanges cs at (store (stored c) at b)
+
 -- the fields of a station's record, with position p, island c, what was seen a, proposal v and carried figure x
 unfoldable pub fields : (phase p c : ℕ) → Seen Figure → (flag : ℕ) (v x : Figure) → Record
 fields phase p c a flag v x = asRecord phase p c (seenNumber a) (bestIsland a) flag v x (bestFigure a)
@@ -115,7 +167,8 @@ unfoldable pub writingOf : Turn → Record → Station Figure
 writingOf t f = active (f .proposal) (writing t (f .island) (f .carried))
 
 unfoldable pub readingOf : Turn → Record → Station Figure
-readingOf t f = active (f .proposal) (reading t (f .island) (f .carried) (f .position) (seenOf (f .seen) (f .highest) (f .best)))
+readingOf t f =
+    active (f .proposal) (reading t (f .island) (f .carried) (f .position) (seenOf (f .seen) (f .highest) (f .best)))
 
 unfoldable pub ofPhase : ℕ → Record → Station Figure
 ofPhase zero f = idle

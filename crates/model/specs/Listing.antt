@@ -64,6 +64,10 @@ pub data Answer (F : Type 0) : Type 0 where
   adopted decided spent : (c : ℕ) (x : F) → Answer F
   refused : (number : ℕ) → Answer F
 
+-- What an answer says of the step: the station goes on, or has come to its end by it, or the step was refused.
+pub data Outcome : Type 0 where
+  goes-on comes-to-end is-refused : Outcome
+
 -- "Each step moves one station on by a single register": where the station stands afterwards, what it wrote, if
 -- anything, and the answer.
 pub record Move (F : Type 0) : Type 0 where
@@ -97,16 +101,19 @@ module _ {F : Type 0} where
   placeColumn i (has-decided c x) = i
   placeColumn i (is-spent c x) = i
 
+  unfoldable pub outcome : Answer F → Outcome
+  outcome wrote = goes-on
+  outcome read = goes-on
+  outcome (went c x) = goes-on
+  outcome (marked f x) = goes-on
+  outcome (adopted c x) = goes-on
+  outcome (decided c x) = comes-to-end
+  outcome (spent c x) = comes-to-end
+  outcome (refused k) = is-refused
+
   -- "A refusal answers its number only": any other answer is that of a step taken.
   unfoldable pub accepted : Answer F → Bool
-  accepted wrote = true
-  accepted read = true
-  accepted (went c x) = true
-  accepted (marked f x) = true
-  accepted (adopted c x) = true
-  accepted (decided c x) = true
-  accepted (spent c x) = true
-  accepted (refused k) = false
+  accepted a = elim (outcome a) [ goes-on ↦ true | comes-to-end ↦ true | is-refused ↦ false ]
 
   -- "phase 1 writes (c, carried) to its m; 3 writes carried to its A of island c; 5 writes (flag, carried) to its B"
   unfoldable pub entry : Turn → ℕ → F → Register F
@@ -181,7 +188,11 @@ module _ {F : Type 0} where
     -- at r: "The next phase starts at position 0 with nothing seen." A read (lines 26, 6, 10) goes on, "positions in
     -- rising order", and the last one ends the collect. A station that has ended has no move: refusals 15 and 16.
     unfoldable pub move : (n K : ℕ) → Stage F → Register F → Move F
-    move n K (writing t c x) r = record { stage = reading t c x 0 nothing; written = some (entry t c x); answer = wrote }
+    move n K (writing t c x) r = record {
+      stage = reading t c x 0 nothing;
+      written = some (entry t c x);
+      answer = wrote;
+    }
     move n K (reading t c x p a) r =
         cond (ltb (p + 1) n) (stay (reading t c x (p + 1) (see t a r)) read) (ended K t c x (see t a r))
     move n K (has-decided c x) r = stay (has-decided c x) (refused 15)

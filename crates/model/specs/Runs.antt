@@ -28,10 +28,13 @@ module _ (one : ℕ → List ℕ → After (Answer Figure)) where
   answers b [] = []
   answers b (i ∷ is) = one i b .answer ∷ answers (one i b .bytes) is
 
--- "S steps taken, T steps refused and passed over": a run that is not turned down counts the answers of its single steps, leaves the
--- board that they leave, and S and T together are all of them.
+-- "S steps taken, T steps refused and passed over": a run that is not turned down counts the answers of its single
+-- steps, leaves the board that they leave, and S and T together are all of them.
 unfoldable pub RunsCount : Type 0
 RunsCount =
     (is b : List ℕ) → boardRefusal b none ≡ none → length is ≤ 65536
-    → (run is b ≡ (record { answer = ran (taken (answers step b is)) (passed (answers step b is)); bytes = after step b is }))
+    → (run is b ≡ (record {
+      answer = ran (taken (answers step b is)) (passed (answers step b is));
+      bytes = after step b is;
+    }))
     × (taken (answers step b is) + passed (answers step b is) ≡ length is)

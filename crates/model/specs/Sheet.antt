@@ -9,12 +9,16 @@ use Rattle.model.specs.Show.{text, decimal, signed, Shown}
 use Rattle.model.specs.Show as shows
 use Rattle.model.specs.Forms.{Form, board, propose, steps, show, expand, Reading, reads, unread, readLine}
 
--- What a line prints, without its LF; how many bytes of the memory are the board that was laid last, 0 for none; and the
--- memory afterwards.
+-- What a line prints, without its LF; how many bytes of the memory are the board that was laid last, 0 for none; and
+-- the memory afterwards.
 pub record Played : Type 0 where
   pub printed : List ℕ
   pub laid : ℕ
   pub memory : List ℕ
+
+-- the highest number that a refusal has
+unfoldable pub lastRefusal : ℕ
+lastRefusal = 17
 
 -- "A refused line prints `(refused N)`."
 unfoldable pub refusedText : (number : ℕ) → List ℕ
@@ -49,7 +53,11 @@ module _ (laid : ℕ) (m : List ℕ) where
       played : After Refusal → Played
       played a =
           elim (a .answer) [
-            | none ↦ record { printed = laidText n K; laid = boardLength n K; memory = a .bytes ++ drop (boardLength n K) m }
+            | none ↦ record {
+              printed = laidText n K;
+              laid = boardLength n K;
+              memory = a .bytes ++ drop (boardLength n K) m;
+            }
             | some k ↦ turnedDown k
           ]
 
@@ -66,7 +74,7 @@ module _ (laid : ℕ) (m : List ℕ) where
   playForm (steps is) = onBoard ranText (calls.run (expand is))
   playForm show = onBoard shownText (λ b. record { answer = shows.show b; bytes = b })
 
-  unfoldable pub playReading : Reading → Played
+  unfoldable pub playReading : Reading Form → Played
   playReading (reads f) = playForm f
   playReading (unread k) = turnedDown k
 
@@ -90,4 +98,5 @@ printed laid m (l ∷ ls) =
 
 -- "1. The sheet is longer than 32,768 bytes; this alone is printed." The memory has room for the largest board.
 unfoldable pub playSheet : List ℕ → List ℕ
-playSheet s = cond (leb (length s) 32768) (printed 0 (replicate (boardLength 16 64) 0) (linesOf s)) (refusedText 1 ++ (10 ∷ []))
+playSheet s =
+    cond (leb (length s) 32768) (printed 0 (replicate (boardLength 16 64) 0) (linesOf s)) (refusedText 1 ++ (10 ∷ []))

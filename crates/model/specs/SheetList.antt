@@ -1,7 +1,7 @@
--- How the lines of a sheet stand in the list of demand 3, with the claim that demand 3 holds of them, and which refusals no line
--- prints.
--- Relies on the sheet and on demand 3; proofs/Sheet/Calls.antt and proofs/Sheet/Fits.antt prove the claims.
-use Rattle.model.specs.Kit.{cond, List, [], _∷_, _++_, none, some, ℕ, leb, length, take, replicate}
+-- How the lines of a sheet stand in the list of demand 3, with the claim that demand 3 holds of them, and which
+-- refusals no line prints.
+-- Relies on the sheet and on demand 3; proofs/Sheet/ListOfCalls.antt and proofs/Sheet/Fits.antt prove the claims.
+use Rattle.model.specs.Kit.{cond, List, [], _∷_, _++_, none, ℕ, leb, length, take, replicate}
 use mathlib.Core.Path.{_≡_}
 use mathlib.Core.Logic.{_⊎_}
 use mathlib.Core.List.{map}
@@ -13,25 +13,22 @@ use Rattle.model.specs.AnyList.{Call, proposing, stepping, after, Demand
 
 -- ---- the calls of a line
 
--- "A sheet's line stands in the list as the single calls it makes; a show alters nothing." A `steps` line that is turned
--- down with 6 makes none. An accepted `board` begins another list, and a refused one is not lent the laid board.
-unfoldable pub formCalls : Form → List Call
-formCalls (board n K) = []
-formCalls (propose i v) = proposing i v ∷ []
-formCalls (steps is) = cond (leb (length (expand is)) 65536) (map stepping (expand is)) []
-formCalls show = []
+-- "A sheet's line stands in the list as the single calls it makes; a show alters nothing." The calls are those on the
+-- board that the line is lent. A `steps` line that is turned down with 6 makes none. An accepted `board` begins another
+-- list, and a refused one is not lent the laid board.
+unfoldable pub formCalls : (lent : List ℕ) → Form → List Call
+formCalls b (board n K) = []
+formCalls b (propose i v) = proposing i v ∷ []
+formCalls b (steps is) = cond (leb (length (expand is)) 65536) (map stepping (expand is)) []
+formCalls b show = []
 
-unfoldable pub callsOf : Reading → List Call
-callsOf (reads f) = formCalls f
-callsOf (unread k) = []
+unfoldable pub callsOf : (lent : List ℕ) → Reading Form → List Call
+callsOf b (reads f) = formCalls b f
+callsOf b (unread k) = []
 
--- The line lays no board: it is no `board` line, or one that is refused.
-unfoldable pub Stays : (m : List ℕ) → Reading → Type 0
-Stays m (reads (board n K)) = (k : ℕ) × (lay n K (take (boardLength n K) m) .answer ≡ some k)
-Stays m (reads (propose i v)) = Unit {0}
-Stays m (reads (steps is)) = Unit {0}
-Stays m (reads show) = Unit {0}
-Stays m (unread k) = Unit {0}
+-- The line lays no board: it is no `board` line that is accepted.
+unfoldable pub Stays : (m : List ℕ) → Reading Form → Type 0
+Stays m r = (n K : ℕ) → r ≡ reads (board n K) → lay n K (take (boardLength n K) m) .answer ≡ none → ⊥
 
 -- ---- lines one after another
 
@@ -40,27 +37,29 @@ unfoldable pub playLines : List (List ℕ) → Played → Played
 playLines [] p = p
 playLines (l ∷ ls) p = playLines ls (playLine (p .laid) (p .memory) l)
 
-unfoldable pub linesCalls : List (List ℕ) → List Call
-linesCalls [] = []
-linesCalls (l ∷ ls) = callsOf (readLine l) ++ linesCalls ls
+-- the bytes of the board that was laid last
+unfoldable pub boardOf : Played → List ℕ
+boardOf p = take (p .laid) (p .memory)
+
+-- the calls of the lines, each line lent the board as the line before left it
+unfoldable pub linesCalls : List (List ℕ) → Played → List Call
+linesCalls [] p = []
+linesCalls (l ∷ ls) p = callsOf (boardOf p) (readLine l) ++ linesCalls ls (playLine (p .laid) (p .memory) l)
 
 -- no line of them lays another board
 unfoldable pub AllStay : List (List ℕ) → Played → Type 0
 AllStay [] p = Unit {0}
 AllStay (l ∷ ls) p = Stays (p .memory) (readLine l) × AllStay ls (playLine (p .laid) (p .memory) l)
 
--- the bytes of the board that was laid last
-unfoldable pub boardOf : Played → List ℕ
-boardOf p = take (p .laid) (p .memory)
-
--- From an accepted `board n K` on, whatever the sheet did before: the lines up to the next accepted `board` leave the board as
--- their single calls leave it, and demand 3 holds of those calls as one list.
+-- From an accepted `board n K` on, whatever the sheet did before: the lines up to the next accepted `board` leave the
+-- board as their single calls leave it, and demand 3 holds of those calls as one list.
 unfoldable pub SheetDemand3 : Type 0
 SheetDemand3 =
     (laid : ℕ) (m : List ℕ) (n K : ℕ) → lay n K (take (boardLength n K) m) .answer ≡ none
     → (ls : List (List ℕ)) → AllStay ls (playBoard laid m n K)
-    → (boardOf (playLines ls (playBoard laid m n K)) ≡ after (linesCalls ls) (boardOf (playBoard laid m n K)))
-    × Demand3 n K (boardOf (playBoard laid m n K)) (linesCalls ls)
+    → (boardOf (playLines ls (playBoard laid m n K))
+    ≡ after (linesCalls ls (playBoard laid m n K)) (boardOf (playBoard laid m n K)))
+    × Demand3 n K (boardOf (playBoard laid m n K)) (linesCalls ls (playBoard laid m n K))
 
 -- ---- "The program lends boards that fit, so only library callers meet 7, 10 and 11."
 
@@ -74,7 +73,10 @@ NotMet t = (k : ℕ) → LibraryOnly k → t ≡ refusedText k → ⊥
 -- each line's printed text has P, and each line is played where the line before left off
 unfoldable pub EachPrints : (List ℕ → Type 0) → List (List ℕ) → Played → Type 0
 EachPrints P [] p = Unit {0}
-EachPrints P (l ∷ ls) p = P (playLine (p .laid) (p .memory) l .printed) × EachPrints P ls (playLine (p .laid) (p .memory) l)
+EachPrints P (l ∷ ls) p =
+    P (playLine (p .laid) (p .memory) l .printed) × EachPrints P ls (playLine (p .laid) (p .memory) l)
 
 unfoldable pub NeverMet : Type 0
-NeverMet = (s : List ℕ) → EachPrints NotMet (linesOf s) (record { printed = []; laid = 0; memory = replicate (boardLength 16 64) 0 })
+NeverMet =
+    (s : List ℕ) → EachPrints NotMet (linesOf s)
+    (record { printed = []; laid = 0; memory = replicate (boardLength 16 64) 0 })

@@ -1,6 +1,7 @@
 -- The line that `show` hands back: "512 bytes, zeros after the line, and its length".
 -- Relies on how a station stands and on the calls' refusals; the sheet's printed lines rely on its texts and numbers.
-use Rattle.model.specs.Kit.{cond, List, [], _∷_, _++_, none, some, ℕ, zero, suc, _+_, _-_, _/_, _%_, leb, ltb, pos, negsuc, length, replicate}
+use Rattle.model.specs.Kit.{cond, List, [], _∷_, _++_, none, some, ℕ, zero, suc, _+_, _-_, _/_, _%_, leb, ltb}
+use Rattle.model.specs.Kit.{pos, negsuc, length, replicate}
 use Prim.Native.Char.{code}
 use Prim.Native.String.{String, len, charAt}
 use Rattle.model.specs.Figure.{Figure}
@@ -48,7 +49,8 @@ status s = standingText (standingOf s)
 -- "per station in order", the first k of them
 unfoldable pub statuses : (k n K : ℕ) → List ℕ → List ℕ
 statuses zero n K b = []
-statuses (suc k) n K b = statuses k n K b ++ text " (" ++ decimal (suc k) ++ text " " ++ status (stationOf n K k b) ++ text ")"
+statuses (suc k) n K b =
+    statuses k n K b ++ text " (" ++ decimal (suc k) ++ text " " ++ status (stationOf n K k b) ++ text ")"
 
 -- "`(show)` prints `(stations ..)`"
 unfoldable pub shownLine : List ℕ → List ℕ

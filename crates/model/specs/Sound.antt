@@ -3,7 +3,9 @@
 use Rattle.model.specs.Kit.{Bool, true, false, not, _&&_, _||_, cond, List, ℕ, eqb, leb, ltb}
 use Rattle.model.specs.Bytes.{byte, part, zeros, every, implies}
 use Rattle.model.specs.Figure.{Figure, figures, sameFigure}
-use Rattle.model.specs.Listing.{Turn, turnM, turnA, turnB, Seen, nothing, seen, Register, empty, filled, writing, reading, has-decided, is-spent, Station, idle, active, Array, inM, inA, inB, array, entry, pairAbove, flagNumber}
+use Rattle.model.specs.Listing.{Turn, turnM, turnA, turnB, Seen, nothing, seen, Register, empty, filled, writing}
+use Rattle.model.specs.Listing.{reading, has-decided, is-spent, Station, idle, active, Array, inM, inA, inB}
+use Rattle.model.specs.Listing.{array, entry, pairAbove, flagNumber}
 use Rattle.model.specs.Layout.{registerAt, registerOf, recordOf, readRecord, recordValue}
 
 -- "Head, 8 bytes: n, K, six zeros."
@@ -107,8 +109,10 @@ ownPassed i s = whileReading (λ t c x p a. implies (ltb i p) (ownSeen t c x a))
 -- all clauses on a record alone
 unfoldable pub fieldsSound : (n K phase : ℕ) → List ℕ → Bool
 fieldsSound n K phase r =
-    phaseKnown phase r && positionInside phase r n && islandInside phase r K && bestInside phase r K && flagKnown phase r
-    && restZero phase r && idleZero phase r && collectZero phase r && bestIslandZero phase r && bestZero phase r && seenKnown phase r
+    phaseKnown phase r && positionInside phase r n && islandInside phase r K && bestInside phase r K
+    && flagKnown phase r
+    && restZero phase r && idleZero phase r && collectZero phase r && bestIslandZero phase r && bestZero phase r
+    && seenKnown phase r
 
 -- and on its station's own register
 unfoldable pub recordSound : (n K i : ℕ) → (b r : List ℕ) → Bool

@@ -25,4 +25,5 @@ pub data StandingAnswer : Type 0 where
 
 -- after the board's refusals and 12, how station number i stands; the call is lent the board to read only
 unfoldable pub standing : (i : ℕ) → List ℕ → StandingAnswer
-standing i b = elim (boardRefusal b (stationRefusal i b none)) [ none ↦ stands (standingOf (stationAt i b)) | some k ↦ notTold k ]
+standing i b =
+    elim (boardRefusal b (stationRefusal i b none)) [ none ↦ stands (standingOf (stationAt i b)) | some k ↦ notTold k ]

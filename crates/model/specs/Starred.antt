@@ -38,30 +38,36 @@ unfoldable pub rows : List Row
 rows =
     -- "This sheet, given to the program .. prints"
     sheet (
-    "(board 3 2)" ∷ "(propose 1 -40)" ∷ "(propose 2 15)" ∷ "(steps (times 12 1))" ∷ "(show)" ∷ "(steps (times 24 2))" ∷ "(show)"
+    "(board 3 2)" ∷ "(propose 1 -40)" ∷ "(propose 2 15)" ∷ "(steps (times 12 1))" ∷ "(show)" ∷ "(steps (times 24 2))"
+    ∷ "(show)"
     ∷ "(steps 1 2 3 4)" ∷ []
     ) (
-    "(laid 3 2)" ∷ "(proposed 1 -40)" ∷ "(proposed 2 15)" ∷ "(ran 12 0)" ∷ "(stations (1 decided 0 -40) (2 going 0 15) (3 idle))"
+    "(laid 3 2)" ∷ "(proposed 1 -40)" ∷ "(proposed 2 15)" ∷ "(ran 12 0)"
+    ∷ "(stations (1 decided 0 -40) (2 going 0 15) (3 idle))"
     ∷ "(ran 24 0)" ∷ "(stations (1 decided 0 -40) (2 decided 1 -40) (3 idle))" ∷ "(ran 0 4)" ∷ []
     )
-    -- "n = 2, K = 2, proposals 7 and 3: `(steps (times 2 (times 3 2) (times 3 1) (times 3 2) (times 6 1) (times 3 2)))` gives
-    -- `(ran 36 0)`, then `(1 spent 1 7) (2 spent 1 3)`."
+    -- "n = 2, K = 2, proposals 7 and 3: `(steps (times 2 (times 3 2) (times 3 1) (times 3 2) (times 6 1) (times 3 2)))`
+    -- gives `(ran 36 0)`, then `(1 spent 1 7) (2 spent 1 3)`."
     ∷ sheet (
     "(board 2 2)" ∷ "(propose 1 7)" ∷ "(propose 2 3)"
     ∷ "(steps (times 2 (times 3 2) (times 3 1) (times 3 2) (times 6 1) (times 3 2)))" ∷ "(show)" ∷ []
-    ) ("(laid 2 2)" ∷ "(proposed 1 7)" ∷ "(proposed 2 3)" ∷ "(ran 36 0)" ∷ "(stations (1 spent 1 7) (2 spent 1 3))" ∷ [])
+    ) ("(laid 2 2)" ∷ "(proposed 1 7)" ∷ "(proposed 2 3)" ∷ "(ran 36 0)" ∷ "(stations (1 spent 1 7) (2 spent 1 3))"
+    ∷ [])
     -- "n = 3, K = 2, all propose 5: `(steps (times 12 1 2 3))` gives `(ran 36 0)`, and all have decided 5 on island 0."
-    ∷ sheet ("(board 3 2)" ∷ "(propose 1 5)" ∷ "(propose 2 5)" ∷ "(propose 3 5)" ∷ "(steps (times 12 1 2 3))" ∷ "(show)" ∷ []) (
+    ∷ sheet ("(board 3 2)" ∷ "(propose 1 5)" ∷ "(propose 2 5)" ∷ "(propose 3 5)" ∷ "(steps (times 12 1 2 3))" ∷ "(show)"
+    ∷ []) (
     "(laid 3 2)" ∷ "(proposed 1 5)" ∷ "(proposed 2 5)" ∷ "(proposed 3 5)" ∷ "(ran 36 0)"
     ∷ "(stations (1 decided 0 5) (2 decided 0 5) (3 decided 0 5))" ∷ []
     )
     -- "n = 1, K = 2: six steps decide": not five, and a seventh is refused
     ∷ sheet ("(board 1 2)" ∷ "(propose 1 9)" ∷ "(steps (times 5 1))" ∷ "(show)" ∷ "(steps 1 1)" ∷ "(show)" ∷ []) (
-    "(laid 1 2)" ∷ "(proposed 1 9)" ∷ "(ran 5 0)" ∷ "(stations (1 going 0 9))" ∷ "(ran 1 1)" ∷ "(stations (1 decided 0 9))" ∷ []
+    "(laid 1 2)" ∷ "(proposed 1 9)" ∷ "(ran 5 0)" ∷ "(stations (1 going 0 9))" ∷ "(ran 1 1)"
+    ∷ "(stations (1 decided 0 9))" ∷ []
     )
     -- not starred: station 2 is halted between two reads of its collect of m, the others settle on 7, and it comes back
     ∷ sheet (
-    "(board 3 2)" ∷ "(propose 1 7)" ∷ "(propose 2 3)" ∷ "(propose 3 5)" ∷ "(steps 2 2)" ∷ "(steps (times 12 1) (times 12 3))"
+    "(board 3 2)" ∷ "(propose 1 7)" ∷ "(propose 2 3)" ∷ "(propose 3 5)" ∷ "(steps 2 2)"
+    ∷ "(steps (times 12 1) (times 12 3))"
     ∷ "(steps (times 22 2))" ∷ "(show)" ∷ []
     ) (
     "(laid 3 2)" ∷ "(proposed 1 7)" ∷ "(proposed 2 3)" ∷ "(proposed 3 5)" ∷ "(ran 2 0)" ∷ "(ran 24 0)" ∷ "(ran 22 0)"
@@ -73,8 +79,14 @@ rows =
     ∷ record { gives = layIn 16904 17 64; says = turnedDown 8 }
     ∷ record { gives = layIn 72 1 1; says = turnedDown 9 }
     -- "−2,147,483,648 is below −1; 2,147,483,647 is above 0", each from its bytes in two's complement
-    ∷ record { gives = compared (above (figure (255 ∷ 255 ∷ 255 ∷ 255 ∷ [])) (figure (0 ∷ 0 ∷ 0 ∷ 128 ∷ []))); says = compared true }
-    ∷ record { gives = compared (above (figure (255 ∷ 255 ∷ 255 ∷ 127 ∷ [])) (figure (0 ∷ 0 ∷ 0 ∷ 0 ∷ []))); says = compared true }
+    ∷ record {
+      gives = compared (above (figure (255 ∷ 255 ∷ 255 ∷ 255 ∷ [])) (figure (0 ∷ 0 ∷ 0 ∷ 128 ∷ [])));
+      says = compared true;
+    }
+    ∷ record {
+      gives = compared (above (figure (255 ∷ 255 ∷ 255 ∷ 127 ∷ [])) (figure (0 ∷ 0 ∷ 0 ∷ 0 ∷ [])));
+      says = compared true;
+    }
     ∷ []
 
 unfoldable pub Holds : List Row → Type 0

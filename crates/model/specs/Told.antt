@@ -2,7 +2,8 @@
 -- Relies on the declared types and the answers of the definitions; every contract of a call relies on it.
 use Rattle.model.specs.Kit.{none, some}
 use Rattle.model.specs.declared.StepAnswer.{StepAnswer}
-use Rattle.model.specs.declared.StepAnswer.the-variants.{Wrote, Read, Went, Marked, Adopted, Decided, Spent, Refused}
+use Rattle.model.specs.declared.StepAnswer.the-variants.{Wrote, Read, Went, Marked, Adopted, Decided, Spent}
+use Rattle.model.specs.declared.StepAnswer.the-variants.{Refused}
 use Rattle.model.specs.declared.Verdict.{Verdict}
 use Rattle.model.specs.declared.Verdict.the-variants as verdicts
 use Rattle.model.specs.declared.RunVerdict.{RunVerdict}
@@ -15,7 +16,8 @@ use Rattle.model.specs.declared.ShownLine.{ShownLine}
 use Rattle.model.specs.Figure.{Figure}
 use Rattle.model.specs.Listing.{Answer, wrote, read, went, marked, adopted, decided, spent, refused}
 use Rattle.model.specs.Calls.{Refusal, RunAnswer, ran, notRun}
-use Rattle.model.specs.Standing.{Standing, stands-idle, stands-going, stands-decided, stands-spent, StandingAnswer, stands, notTold}
+use Rattle.model.specs.Standing.{Standing, stands-idle, stands-going, stands-decided, stands-spent}
+use Rattle.model.specs.Standing.{StandingAnswer, stands, notTold}
 use Rattle.model.specs.Show.{Shown}
 
 -- "It answers with its kind and fields"; a flag is "1 adopt or 2 commit"

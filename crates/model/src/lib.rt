@@ -1,4 +1,7 @@
-// The types that the definitions in specs/ and the code of the crates above share. Nothing runs here.
+// The types that the definitions in specs/ and the code of the crates above share, and the numbers of phases and marks.
+// Nothing runs here.
+pub mod marks; // the marks of a register
+pub mod phase; // the phases of a record
 
 // A register by its fields: mark 0 (empty), 1 or 2, then island and figure.
 pub struct Register {

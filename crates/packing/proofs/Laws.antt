@@ -1,3 +1,2 @@
 -- Laws over plain variables, one subject a file.
 pub mod Packing
-pub mod Standings

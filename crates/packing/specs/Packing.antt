@@ -9,20 +9,26 @@ use Rattle.model.specs.declared.RunVerdict.the-variants.{Ran, Refused}
 use Rattle.model.specs.Figure.{Figure}
 use Rattle.model.specs.Listing.{Answer, wrote, read, went, marked, adopted, decided, spent, refused}
 use Rattle.model.specs.Calls.{Refusal, RunAnswer, ran, notRun}
-use Rattle.model.specs.Standing.{stands-idle, stands-going, stands-decided, stands-spent, StandingAnswer, stands, notTold}
+use Rattle.model.specs.Standing.{stands-idle, stands-going, stands-decided, stands-spent, StandingAnswer, stands}
+use Rattle.model.specs.Standing.{notTold}
 
 -- a figure's 32 bits of two's complement, as a number
 unfoldable pub bits : Figure → ℕ
 bits v = ofZ w32 v
 
--- bits 0 to 7 the refusal's number, 8 to 15 the kind, 16 to 23 the island or the flag, 32 to 63 the figure
-unfoldable pub packed : (number kind field figure : ℕ) → ℕ
-packed number kind field figure = number + kind * 256 + field * 65536 + figure * 4294967296
+-- bits 0 to 7 the refusal's number, from 8 on the kind, from the bit of the place on the island or the flag, 32 to 63
+-- the figure
+unfoldable pub packedAt : (place number kind field figure : ℕ) → ℕ
+packedAt place number kind field figure = number + kind * 256 + field * place + figure * 4294967296
 
 -- 0 for an accepted call
 unfoldable pub packVerdict : Refusal → ℕ
 packVerdict none = 0
 packVerdict (some k) = k
+
+-- of a step, bits 8 to 15 are the kind, 16 to 23 the island or the flag
+abbrev pub packed : (number kind field figure : ℕ) → ℕ
+packed = packedAt 65536
 
 unfoldable pub packStep : Answer Figure → ℕ
 packStep wrote = packed 0 1 0 0
@@ -44,10 +50,9 @@ unfoldable pub packRun : RunAnswer → ℕ
 packRun (ran s t) = s * 256 + t * 4294967296
 packRun (notRun k) = k
 
--- bits 0 to 7 the refusal's number, 8 to 11 how the station stands, 12 to 19 the island, 32 to 63 the figure; 20 to 31 are
--- kept free
-unfoldable pub packedStanding : (number kind island figure : ℕ) → ℕ
-packedStanding number kind island figure = number + kind * 256 + island * 4096 + figure * 4294967296
+-- of a station, bits 8 to 11 are how it stands, 12 to 19 the island; 20 to 31 are kept free
+abbrev pub packedStanding : (number kind island figure : ℕ) → ℕ
+packedStanding = packedAt 4096
 
 unfoldable pub packStanding : StandingAnswer → ℕ
 packStanding (stands stands-idle) = packedStanding 0 1 0 0

@@ -4,7 +4,7 @@ ghost use mathlib.Core.Path.{_≡_};
 ghost use Prim.Native.Nat.{_≤_};
 ghost use Rattle.model.specs.Standing.{stands};
 ghost use Rattle.model.specs.Told.{told, verdict, runTold, standingTold, standingAnswered};
-ghost use Rattle.packing.specs.Packing.{bits, packed, packedStanding, packVerdict, packStep, packRun, packStanding, packWord, Few};
+ghost use Rattle.packing.specs.Packing.{bits, packedAt, packVerdict, packStep, packRun, packStanding, packWord, Few};
 use figures::bits_of;
 use model::RunVerdict;
 use model::Standing;
@@ -21,11 +21,18 @@ pub fn verdict_number(answer: Verdict) -> u8
     }
 }
 
-// A step that tells a figure, with its island or flag.
-fn told_of(kind: u8, field: u8, figure: i32) -> u64
-    ensures { λ r. ⌜ r ≡ packed 0 kind field (bits figure) ⌝ }
+// The place of the island or the flag in a step's answer.
+const STEP_FIELD: u32 = 65536;
+
+// The place of the island in the answer of how a station stands.
+const STANDING_FIELD: u32 = 4096;
+
+// An answer that tells a figure: its kind, at its place the island or the flag, and the figure.
+fn packed_at(place: u32, kind: u8, field: u8, figure: i32) -> u64
+    requires { ⌜ place ≤ 65536 ⌝ }
+    ensures { λ r. ⌜ r ≡ packedAt place 0 kind field (bits figure) ⌝ }
 {
-    kind as u64 * 256 + field as u64 * 65536 + bits_of(figure) as u64 * 4294967296
+    kind as u64 * 256 + field as u64 * place as u64 + bits_of(figure) as u64 * 4294967296
 }
 
 pub fn step_number(answer: StepAnswer) -> u64
@@ -34,11 +41,11 @@ pub fn step_number(answer: StepAnswer) -> u64
     match answer {
         StepAnswer::Wrote => 256,
         StepAnswer::Read => 512,
-        StepAnswer::Went { island, figure } => told_of(3, island, figure),
-        StepAnswer::Marked { flag, figure } => told_of(4, flag, figure),
-        StepAnswer::Adopted { island, figure } => told_of(5, island, figure),
-        StepAnswer::Decided { island, figure } => told_of(6, island, figure),
-        StepAnswer::Spent { island, figure } => told_of(7, island, figure),
+        StepAnswer::Went { island, figure } => packed_at(STEP_FIELD, 3, island, figure),
+        StepAnswer::Marked { flag, figure } => packed_at(STEP_FIELD, 4, flag, figure),
+        StepAnswer::Adopted { island, figure } => packed_at(STEP_FIELD, 5, island, figure),
+        StepAnswer::Decided { island, figure } => packed_at(STEP_FIELD, 6, island, figure),
+        StepAnswer::Spent { island, figure } => packed_at(STEP_FIELD, 7, island, figure),
         StepAnswer::Refused { number } => number as u64,
     }
 }
@@ -53,21 +60,14 @@ pub fn run_number(answer: RunVerdict) -> u64
     }
 }
 
-// A station that has proposed, with its island and the figure that it carries.
-fn placed(kind: u8, island: u8, figure: i32) -> u64
-    ensures { λ r. ⌜ r ≡ packedStanding 0 kind island (bits figure) ⌝ }
-{
-    kind as u64 * 256 + island as u64 * 4096 + bits_of(figure) as u64 * 4294967296
-}
-
 fn stands_number(standing: Standing) -> u64
     ensures { λ r. ⌜ r ≡ packStanding (stands (standingTold standing)) ⌝ }
 {
     match standing {
         Standing::Idle => 256,
-        Standing::Going { island, figure } => placed(2, island, figure),
-        Standing::Decided { island, figure } => placed(3, island, figure),
-        Standing::Spent { island, figure } => placed(4, island, figure),
+        Standing::Going { island, figure } => packed_at(STANDING_FIELD, 2, island, figure),
+        Standing::Decided { island, figure } => packed_at(STANDING_FIELD, 3, island, figure),
+        Standing::Spent { island, figure } => packed_at(STANDING_FIELD, 4, island, figure),
     }
 }
 

@@ -18,7 +18,8 @@ pub inside : (line : Line) (text : List ℕ) → Holds line text → line .len �
 inside line text h = omega (arith, h .len, ap length (h .bytes), length-append text (replicate (512 - length text) 0))
 
 -- what is left of the sheet falls
-pub falls : (sheet : List ℕ) (len at next laid : ℕ) (m : List ℕ) → len ≤ length sheet → at < len → next ≡ answerAt (take len sheet) at laid m .next
+pub falls : (sheet : List ℕ) (len at next laid : ℕ) (m : List ℕ) → len ≤ length sheet → at < len
+    → next ≡ answerAt (take len sheet) at laid m .next
     → len - next < len - at
 falls sheet len at next laid m h l e =
     let w = length-take-le len sheet h in

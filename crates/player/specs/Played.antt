@@ -1,5 +1,6 @@
 -- What a played line promises: what the model plays, handed back by value.
--- Relies on the model's sheet and on what a line holds; the contracts of the player and of a sheet line by line rely on it.
+-- Relies on the model's sheet and on what a line holds; the contracts of the player and of a sheet line by line rely on
+-- it.
 use mathlib.Core.Path.{_≡_}
 use mathlib.Core.List.{List}
 use Prim.Native.Nat.{ℕ, _<_}
@@ -21,4 +22,5 @@ TurnsDown k laid r = (m : List ℕ) → Plays (model.turnedDown laid m k) r m
 
 -- a line that was read as `steps`
 unfoldable pub PlaysSteps : (line : List ℕ) (laid : ℕ) (m : List ℕ) → Played → List ℕ → Type 0
-PlaysSteps line laid m r d = (is : Items) → readLine line ≡ reads (steps is) → Plays (model.playForm laid m (steps is)) r d
+PlaysSteps line laid m r d =
+    (is : Items) → readLine line ≡ reads (steps is) → Plays (model.playForm laid m (steps is)) r d

@@ -1,16 +1,17 @@
 // One line of a run sheet on a lent memory: refusals 2 to 6, then the call's own, and the printed line by value.
-// Relies on the reader of lines, the walk over items, the calls and the lines they print; the answers of a sheet and the C
+// Relies on the reader of lines, the run of items, the calls and the lines they print; the answers of a sheet and the C
 // interface rely on it.
 ghost use mathlib.Core.Path.{_≡_};
 ghost use Prim.Native.Nat.{min};
 ghost use Rattle.model.specs.Forms as forms;
 ghost use Rattle.model.specs.Sheet.{playLine, playForm};
-ghost use Rattle.walk.specs.Walks.{LineCounts};
+ghost use Rattle.line_run.specs.LineRuns.{LineCounts};
 ghost use Rattle.player.specs.Played.{Plays, TurnsDown, PlaysSteps};
 use calls::lay;
 use calls::propose;
 use calls::show;
 use codec::places::board_length;
+use line_run::run_line;
 use model::RunVerdict;
 use model::Verdict;
 use sheet::form::LineForm;
@@ -20,7 +21,6 @@ use shown::answer::proposed_line;
 use shown::answer::ran_line;
 use shown::answer::refused_line;
 use shown::line::Line;
-use walk::run_line;
 
 // What is printed, without its LF, and how many bytes of the memory are the board that was laid last; 0 is none.
 pub struct Played {
@@ -80,15 +80,15 @@ fn play_proposal(memory: &mut [u8], laid: usize, station: u8, figure: i32) -> Pl
     }
 }
 
-fn play_steps(memory: &mut [u8], laid: usize, line: &[u8], count: u32) -> Played
-    requires { ⌜ LineCounts (now line) count ⌝ }
+fn play_steps(memory: &mut [u8], laid: usize, line: &[u8], at: usize, count: u32) -> Played
+    requires { ⌜ LineCounts (now line) at count ⌝ }
     ensures { λ r. ⌜ PlaysSteps (now (line .entry)) laid (now (memory .entry)) r (now (memory .exit)) ⌝ }
 {
     if laid == 0 {
         return turned_down(5, laid);
     }
     let part = least(laid, memory.len());
-    let run = run_line(&mut memory[..part], line, count);
+    let run = run_line(&mut memory[..part], line, at, count);
     match run {
         RunVerdict::Refused { number } => turned_down(number, laid),
         RunVerdict::Ran { taken, passed } => Played {
@@ -129,7 +129,7 @@ pub fn play_line(line: &[u8], laid: usize, memory: &mut [u8]) -> Played
         LineForm::Refused { number } => turned_down(number, laid),
         LineForm::Board { n, k } => play_board(memory, laid, n, k),
         LineForm::Propose { station, figure } => play_proposal(memory, laid, station, figure),
-        LineForm::Steps { count } => play_steps(memory, laid, line, count),
+        LineForm::Steps { at, count } => play_steps(memory, laid, line, at, count),
         LineForm::Show => play_show(memory, laid),
     }
 }

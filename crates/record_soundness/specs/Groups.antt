@@ -7,7 +7,8 @@ use Rattle.model.specs.declared.Record.{Record}
 use Rattle.model.specs.Figure.{Figure}
 use Rattle.model.specs.Listing.{Station}
 use Rattle.model.specs.Layout.{layRecord}
-use Rattle.model.specs.Sound.{phaseKnown, positionInside, islandInside, bestInside, flagKnown, restZero, idleZero, ownWritten, ownPassed}
+use Rattle.model.specs.Sound.{phaseKnown, positionInside, islandInside, bestInside, flagKnown, restZero, idleZero}
+use Rattle.model.specs.Sound.{ownWritten, ownPassed}
 
 -- A clause of the bytes that a record's fields are laid as.
 abbrev pub laid : (ℕ → List ℕ → Bool) → Record → Bool
@@ -15,7 +16,8 @@ laid clause f = clause (f .phase) (layRecord f)
 
 abbrev pub boundsKept : (n K : ℕ) → Record → Bool
 boundsKept n K f =
-    laid phaseKnown f && positionInside (f .phase) (layRecord f) n && islandInside (f .phase) (layRecord f) K && bestInside (f .phase) (layRecord f) K
+    laid phaseKnown f && positionInside (f .phase) (layRecord f) n && islandInside (f .phase) (layRecord f) K
+    && bestInside (f .phase) (layRecord f) K
 
 -- the clauses on what a record holds whether it collects or not
 abbrev pub alwaysKept : (n K : ℕ) → Record → Bool

@@ -3,18 +3,23 @@
 // Relies on the layout; records rely on it.
 ghost use mathlib.Core.Path.{_≡_};
 ghost use mathlib.Core.Bool.{_||_};
-ghost use mathlib.Core.List.{[], _∷_};
 ghost use lib.Dec.{eqb};
-ghost use Rattle.model.specs.Bytes.{zeros};
+ghost use Rattle.model.specs.Bytes.{part, zeros};
 ghost use Rattle.model.specs.Layout.{layRecord};
 ghost use Rattle.model.specs.Sound.{flagKnown, idleZero, collecting, collectZero, bestIslandZero, bestZero, seenKnown, fieldsSound};
 ghost use Rattle.record_soundness.specs.Groups.{laid, boundsKept, alwaysKept};
 use model::Record;
+use model::phase::IDLE;
+use model::phase::READ_A;
+use model::phase::READ_B;
+use model::phase::READ_M;
+use model::phase::SPENT;
+use model::phase::WRITE_B;
 
 fn bounds_sound(f: Record, n: usize, k: usize) -> bool
     ensures { λ r. ⌜ r ≡ boundsKept n k f ⌝ }
 {
-    if 8 < f.phase {
+    if SPENT < f.phase {
         return false;
     }
     let position = f.position as usize;
@@ -41,19 +46,19 @@ fn one_or_two(x: u8) -> bool
 fn flag_sound(f: Record) -> bool
     ensures { λ r. ⌜ r ≡ laid flagKnown f ⌝ }
 {
-    if f.phase == 5 {
+    if f.phase == WRITE_B {
         return one_or_two(f.flag);
     }
-    if f.phase == 6 {
+    if f.phase == READ_B {
         return one_or_two(f.flag);
     }
     f.flag == 0
 }
 
 fn bytes_zero(f: Record) -> bool
-    ensures { λ r. ⌜ r ≡ zeros (f .phase ∷ f .position ∷ f .island ∷ f .seen ∷ f .highest ∷ f .flag ∷ []) ⌝ }
+    ensures { λ r. ⌜ r ≡ zeros (part 0 6 (layRecord f)) ⌝ }
 {
-    if f.phase != 0 {
+    if f.phase != IDLE {
         return false;
     }
     if f.position != 0 {
@@ -74,7 +79,7 @@ fn bytes_zero(f: Record) -> bool
 fn idle_sound(f: Record) -> bool
     ensures { λ r. ⌜ r ≡ laid idleZero f ⌝ }
 {
-    if f.phase != 0 {
+    if f.phase != IDLE {
         return true;
     }
     if !bytes_zero(f) {
@@ -92,13 +97,13 @@ fn idle_sound(f: Record) -> bool
 fn is_collecting(f: Record) -> bool
     ensures { λ r. ⌜ r ≡ laid collecting f ⌝ }
 {
-    if f.phase == 2 {
+    if f.phase == READ_M {
         return true;
     }
-    if f.phase == 4 {
+    if f.phase == READ_A {
         return true;
     }
-    f.phase == 6
+    f.phase == READ_B
 }
 
 fn collect_zero(f: Record) -> bool
@@ -119,7 +124,7 @@ fn collect_zero(f: Record) -> bool
 fn best_island_zero(f: Record) -> bool
     ensures { λ r. ⌜ r ≡ laid bestIslandZero f ⌝ }
 {
-    if f.phase == 2 {
+    if f.phase == READ_M {
         return true;
     }
     f.highest == 0
@@ -140,10 +145,10 @@ fn best_zero(f: Record) -> bool
 fn seen_known(f: Record) -> bool
     ensures { λ r. ⌜ r ≡ laid seenKnown f ⌝ }
 {
-    if f.phase == 2 {
+    if f.phase == READ_M {
         return f.seen <= 1;
     }
-    if f.phase == 4 {
+    if f.phase == READ_A {
         return f.seen <= 2;
     }
     f.seen <= 3

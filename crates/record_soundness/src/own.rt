@@ -1,5 +1,5 @@
 // A record against the station's own register: what it says it wrote stands there, and a collect that has passed it has seen it.
-// Relies on codec's registers; records rely on it.
+// Relies on codec's registers and on the order of figures; records rely on it.
 ghost use mathlib.Core.Path.{_≡_};
 ghost use Prim.Native.Nat.{_+_, _*_, _≤_, _<_};
 ghost use lib.Dec.{eqb};
@@ -11,8 +11,14 @@ ghost use Rattle.model.specs.Sound.{sameRegister};
 ghost use Rattle.record_soundness.specs.Groups.{ownKept};
 use codec::places::register_offset;
 use codec::registers::register_at;
+use figures::order::above;
+use figures::order::pair_above;
+use figures::order::same;
 use model::Record;
 use model::Register;
+use model::phase::READ_A;
+use model::phase::READ_B;
+use model::phase::READ_M;
 
 fn same_flag(mark: u8, flag: u8) -> bool
     ensures { λ r. ⌜ r ≡ eqb (flagNumber (flagOf mark)) (flagNumber (flagOf flag)) ⌝ }
@@ -36,7 +42,7 @@ fn held(r: Register, flag: u8, island: u8, figure: i32) -> bool
     if r.island != island {
         return false;
     }
-    r.figure == figure
+    same(r.figure, figure)
 }
 
 // The register of station index i in a row of n.
@@ -62,13 +68,7 @@ fn own_in_m(s: &[u8], n: usize, i: usize, f: Record) -> bool
     if f.seen == 0 {
         return false;
     }
-    if f.highest < f.island {
-        return false;
-    }
-    if f.island < f.highest {
-        return true;
-    }
-    f.carried <= f.best
+    !pair_above(f.island, f.carried, f.highest, f.best)
 }
 
 // Phase 4: the carried figure, and the best figure no lower.
@@ -87,7 +87,7 @@ fn own_in_a(s: &[u8], n: usize, k: usize, i: usize, f: Record) -> bool
     if f.seen == 0 {
         return false;
     }
-    f.carried <= f.best
+    !above(f.carried, f.best)
 }
 
 // Phase 6: the flag and the carried figure.
@@ -110,13 +110,13 @@ pub fn own_sound(s: &[u8], n: usize, k: usize, i: usize, f: Record) -> bool
     requires { ⌜ (length (now s) ≡ boardLength n k) × (n ≤ 16) × (k ≤ 64) × (i < n) × (f .island < k) ⌝ }
     ensures { λ r. ⌜ r ≡ ownKept n i (now (s .entry)) (recordValue f) ⌝ }
 {
-    if f.phase == 2 {
+    if f.phase == READ_M {
         return own_in_m(s, n, i, f);
     }
-    if f.phase == 4 {
+    if f.phase == READ_A {
         return own_in_a(s, n, k, i, f);
     }
-    if f.phase == 6 {
+    if f.phase == READ_B {
         return own_in_b(s, n, k, i, f);
     }
     true

@@ -8,10 +8,10 @@ ghost use Rattle.model.specs.Layout.{boardLength, recordAt, recordOf};
 ghost use Rattle.model.specs.Sound.{recordSound};
 use crate::fields::fields_sound;
 use crate::own::own_sound;
-use crate::zeros::zero_pair;
-use crate::zeros::zero_word;
 use codec::places::record_offset;
 use codec::records::record_at;
+use figures::zeros::zero_pair;
+use figures::zeros::zero_word;
 
 fn record_sound(s: &[u8], at: usize, n: usize, k: usize, i: usize) -> bool
     requires { ⌜ (length (now s) ≡ boardLength n k) × (n ≤ 16) × (k ≤ 64) × (i < n) × (at ≡ recordAt n k i) ⌝ }

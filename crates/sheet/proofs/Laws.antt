@@ -3,5 +3,5 @@ pub mod Times
 pub mod Items
 pub mod Depth
 pub mod Forms
-pub mod Lines
+pub mod WholeLine
 pub mod Readings

@@ -7,7 +7,7 @@ use Prim.Native.Nat.{ℕ, min, _≤_, _<_}
 use lib.ListN.{length, drop}
 use Rattle.model.specs.Forms.{Read, found, expandItem, expand, timesIn, itemIn, itemsIn}
 use Rattle.lexer.specs.declared.number.FoundNumber.{FoundNumber}
-use Rattle.lexer.specs.Answered.{Answered, took, refused, orRefused}
+use Rattle.model.specs.Forms.{Reading, reads, unread, orFour}
 use Rattle.lexer.specs.Placed.{numberAt, NumberInside}
 use Rattle.sheet.specs.declared.item.Counted.{Counted}
 use Rattle.sheet.specs.declared.item.Counted.the-variants.{Steps, Refused}
@@ -16,9 +16,9 @@ use Rattle.sheet.specs.declared.item.Counted.the-variants.{Steps, Refuse
 abbrev pub capped : ℕ → ℕ
 capped x = min x 65537
 
-unfoldable pub countedAt : List ℕ → Counted → Answered (Read ℕ)
-countedAt line (Steps c next) = took (record { value = c; rest = drop next line })
-countedAt line (Refused k) = refused k
+unfoldable pub countedAt : List ℕ → Counted → Reading (Read ℕ)
+countedAt line (Steps c next) = reads (record { value = c; rest = drop next line })
+countedAt line (Refused k) = unread k
 
 abbrev pub CountedInside : List ℕ → (at : ℕ) → Counted → Type 0
 CountedInside line at (Steps c next) = (at < next) × (next ≤ length line) × (c ≤ 65537)
@@ -31,14 +31,16 @@ sized steps (some r) = found (capped (length (steps (r .value)))) (r .rest)
 
 -- the number of "(times k ", with the place after it
 pub record TimesIs (line : List ℕ) (at : ℕ) (r : FoundNumber) : Type 0 where
-  pub reads : numberAt line r ≡ orRefused (timesIn (drop at line))
+  pub reads : numberAt line r ≡ orFour (timesIn (drop at line))
   pub inside : NumberInside line at 1 99999 r
 
 -- the model's reader agrees whatever its fuel, if that exceeds the bytes left
 pub record ItemIs (line : List ℕ) (at : ℕ) (r : Counted) : Type 0 where
-  pub reads : (fuel : ℕ) → length (drop at line) < fuel → countedAt line r ≡ orRefused (sized expandItem (itemIn fuel (drop at line)))
+  pub reads : (fuel : ℕ) → length (drop at line) < fuel
+      → countedAt line r ≡ orFour (sized expandItem (itemIn fuel (drop at line)))
   pub inside : CountedInside line at r
 
 pub record ItemsAre (line : List ℕ) (at : ℕ) (r : Counted) : Type 0 where
-  pub reads : (fuel : ℕ) → length (drop at line) < fuel → countedAt line r ≡ orRefused (sized expand (itemsIn fuel (drop at line)))
+  pub reads : (fuel : ℕ) → length (drop at line) < fuel
+      → countedAt line r ≡ orFour (sized expand (itemsIn fuel (drop at line)))
   pub inside : CountedInside line at r

@@ -1,3 +1,3 @@
 -- What the functions of the reader promise, in the words of the model's forms.
 pub mod Counts
-pub mod Lines
+pub mod LineForms

@@ -3,9 +3,9 @@
 ghost use mathlib.Core.Path.{_≡_};
 ghost use Prim.Native.Nat.{_≤_};
 ghost use lib.ListN.{length, drop};
-ghost use Rattle.model.specs.Forms.{boardWord, proposeWord, stepsWord, showWord, formAfter, formIn, tooDeep, same, orFour, readLine};
+ghost use Rattle.model.specs.Forms.{boardRow, proposeRow, stepsRow, showRow, wordPlace, formIn, tooDeep, same, orFour, readLine};
 ghost use Rattle.model.specs.Show.{text};
-ghost use Rattle.sheet.specs.Lines.{lineForm};
+ghost use Rattle.sheet.specs.LineForms.{lineForm};
 use crate::item::Counted;
 use crate::item::items;
 use lexer::number::FoundFigure;
@@ -17,12 +17,12 @@ use lexer::word::Named;
 use lexer::word::first_word;
 use lexer::word::form_named;
 
-// A form with its numbers. The items of `steps` stay in the line, from its seventh byte on; `count` is how many steps they
-// stand for, 65,537 for any number above 65,536.
+// A form with its numbers. The items of `steps` stay in the line, from the place `at` on; `count` is how many steps they stand
+// for, 65,537 for any number above 65,536.
 pub enum LineForm {
     Board { n: u8, k: u8 },
     Propose { station: u8, figure: i32 },
-    Steps { count: u32 },
+    Steps { at: usize, count: u32 },
     Show,
     Refused { number: u8 },
 }
@@ -63,7 +63,7 @@ fn closes(line: &[u8], at: usize) -> bool
 }
 
 fn board_form(line: &[u8], at: usize) -> LineForm
-    ensures { λ r. ⌜ r ≡ lineForm (orFour (formAfter boardWord (drop at (now (line .entry))))) ⌝ }
+    ensures { λ r. ⌜ r ≡ lineForm at (orFour (boardRow .reader (drop at (now (line .entry))))) ⌝ }
 {
     let FoundNumber::At {
         value: n,
@@ -85,7 +85,7 @@ fn board_form(line: &[u8], at: usize) -> LineForm
 }
 
 fn propose_form(line: &[u8], at: usize) -> LineForm
-    ensures { λ r. ⌜ r ≡ lineForm (orFour (formAfter proposeWord (drop at (now (line .entry))))) ⌝ }
+    ensures { λ r. ⌜ r ≡ lineForm at (orFour (proposeRow .reader (drop at (now (line .entry))))) ⌝ }
 {
     let FoundNumber::At {
         value: station,
@@ -111,7 +111,7 @@ fn propose_form(line: &[u8], at: usize) -> LineForm
 }
 
 fn steps_form(line: &[u8], at: usize) -> LineForm
-    ensures { λ r. ⌜ r ≡ lineForm (orFour (formAfter stepsWord (drop at (now (line .entry))))) ⌝ }
+    ensures { λ r. ⌜ r ≡ lineForm at (orFour (stepsRow .reader (drop at (now (line .entry))))) ⌝ }
 {
     let Counted::Steps { count, next } = items(line, at) else {
         return LineForm::Refused { number: 4 };
@@ -119,12 +119,12 @@ fn steps_form(line: &[u8], at: usize) -> LineForm
     if next < line.len() {
         return LineForm::Refused { number: 4 };
     }
-    LineForm::Steps { count }
+    LineForm::Steps { at, count }
 }
 
 fn show_form(line: &[u8], at: usize) -> LineForm
     requires { ⌜ at ≤ length (now line) ⌝ }
-    ensures { λ r. ⌜ r ≡ lineForm (orFour (formAfter showWord (drop at (now (line .entry))))) ⌝ }
+    ensures { λ r. ⌜ r ≡ lineForm at (orFour (showRow .reader (drop at (now (line .entry))))) ⌝ }
 {
     if closes(line, at) {
         return LineForm::Show;
@@ -133,7 +133,7 @@ fn show_form(line: &[u8], at: usize) -> LineForm
 }
 
 fn form(line: &[u8]) -> LineForm
-    ensures { λ r. ⌜ r ≡ lineForm (orFour (formIn (now (line .entry)))) ⌝ }
+    ensures { λ r. ⌜ r ≡ lineForm (wordPlace (now (line .entry))) (orFour (formIn (now (line .entry)))) ⌝ }
 {
     let part = first_word(line);
     let at = part.len() + 1;
@@ -150,7 +150,7 @@ fn form(line: &[u8]) -> LineForm
 
 // A line of any content and length, without its LF.
 pub fn read_line(line: &[u8]) -> LineForm
-    ensures { λ r. ⌜ r ≡ lineForm (readLine (now (line .entry))) ⌝ }
+    ensures { λ r. ⌜ r ≡ lineForm (wordPlace (now (line .entry))) (readLine (now (line .entry))) ⌝ }
 {
     if 255 < line.len() {
         return LineForm::Refused { number: 2 };

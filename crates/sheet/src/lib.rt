@@ -1,5 +1,5 @@
 // The reader of a run sheet's line: refusals 2 to 4, and the form that the line is.
-// Relies on the model's forms and on the lexer; the walk over items and the player of a line rely on it. Nothing here
+// Relies on the model's forms and on the lexer; the run of items and the player of a line rely on it. Nothing here
 // knows the board.
 pub mod form;
 pub mod item;

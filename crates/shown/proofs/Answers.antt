@@ -1,12 +1,8 @@
 -- The lines of a run sheet's forms piece by piece: the room that each piece finds, and their order.
 -- Relies on Putting, Rooms and Bounds; the proofs of src/answer.rt rely on it.
-use mathlib.Core.Path.{_≡_, sym, subst}
-use mathlib.Core.List.{List, [], _++_, append-assoc}
-use Prim.Native.Nat.{ℕ, _<_}
-use native.Mathlib.Omega.{arith}
-use lib.ListN.{length}
+use Rattle.model.proofs.Kit.{_≡_, sym, subst, List, [], _∷_, _++_, append-assoc, ℕ, _<_, pos, length, arith}
 use Rattle.model.specs.Figure.{Figure}
-use Rattle.model.specs.Show.{text, decimal, signed}
+use Rattle.model.specs.Show.{text, textFrom, decimal, signed}
 use Rattle.model.specs.Calls.{ran}
 use Rattle.model.specs.Sheet.{refusedText, laidText, proposedText, ranText}
 use Rattle.shown.specs.declared.line.Line.{Line}
@@ -18,13 +14,29 @@ use Rattle.shown.proofs.Bounds.{refused-short, laid-short, proposed-sho
 
 -- ---- two numbers
 
-pub two-rooms : {line : Line} (x y : ℕ) → Room line (twoNumbers x y) → Rooms line (decimal x) (text " ") (decimal y) (text ")") []
-unfolding twoNumbers
-two-rooms x y h = rooms-four (decimal x) (text " ") (decimal y) (text ")") h
+-- each piece has room where the one before it ends; 32 is the space, 41 is ")"
+module _ {line : Line} (x y : ℕ) (h : Room line (twoNumbers x y)) where
+  two-rooms : Rooms line (decimal x) (32 ∷ []) (decimal y) (41 ∷ []) []
+  unfolding twoNumbers text textFrom
+  two-rooms = rooms-four (decimal x) _ (decimal y) _ h
 
-pub puts-two : {line a b d r : Line} (x y : ℕ) → Puts line (decimal x) a → Puts a (text " ") b → Puts b (decimal y) d → Puts d (text ")") r
-    → Puts line (twoNumbers x y) r
-unfolding twoNumbers
+  pub two-first : Room line (decimal x)
+  two-first = two-rooms .first
+
+  module _ {a : Line} (p : Puts line (decimal x) a) where
+    pub two-space : Room a (32 ∷ [])
+    two-space = two-rooms .second p
+
+    module _ {b : Line} (q : Puts a (32 ∷ []) b) where
+      pub two-second : Room b (decimal y)
+      two-second = two-rooms .third p q
+
+      pub two-close : {d : Line} → Puts b (decimal y) d → Room d (41 ∷ [])
+      two-close s = two-rooms .fourth p q s
+
+pub puts-two : {line a b d r : Line} (x y : ℕ) → Puts line (decimal x) a → Puts a (32 ∷ []) b → Puts b (decimal y) d
+    → Puts d (41 ∷ []) r → Puts line (twoNumbers x y) r
+unfolding twoNumbers text textFrom
 puts-two x y p q s t = puts-then (puts-then (puts-then p q) s) t
 
 -- a word before two numbers, as one text
@@ -46,23 +58,51 @@ module _ {none : Line} (h : Holds none []) where
   room-two : (w l : List ℕ) (x y : ℕ) → w ++ twoNumbers x y ≡ l → length l < 512 → Room none (w ++ twoNumbers x y)
   room-two w l x y e n = room-same (sym e) (holds-room [] l h (omega arith))
 
-  pub refused-rooms : (k : ℕ) → Rooms none (text "(refused ") (decimal k) (text ")") [] []
-  unfolding refusedText
-  refused-rooms k = rooms-three (text "(refused ") (decimal k) (text ")") (holds-room [] (refusedText k) h (omega (arith, refused-short k)))
-
   pub laid-room : (n K : ℕ) → Room none (text "(laid " ++ twoNumbers n K)
   laid-room n K = room-two (text "(laid ") (laidText n K) n K (laid-is n K) (laid-short n K)
 
   pub ran-room : (s t : ℕ) → Room none (text "(ran " ++ twoNumbers s t)
   ran-room s t = room-two (text "(ran ") (ranText (ran s t)) s t (ran-is s t) (ran-short s t)
 
-  pub proposed-rooms : (i : ℕ) (v : Figure) → Rooms none (text "(proposed ") (decimal i) (text " ") (signed v) (text ")")
-  unfolding proposedText
-  proposed-rooms i v =
-      rooms (text "(proposed ") (decimal i) (text " ") (signed v) (text ")") (holds-room [] (proposedText i v) h (omega (arith, proposed-short i v)))
+  module _ {a : Line} (k : ℕ) (p : Puts none (text "(refused ") a) where
+    refused-rooms : Rooms none (text "(refused ") (decimal k) (text ")") [] []
+    unfolding refusedText
+    refused-rooms =
+        rooms-three (text "(refused ") (decimal k) (text ")")
+        (holds-room [] (refusedText k) h (omega (arith, refused-short k)))
+
+    pub refused-number : Room a (decimal k)
+    refused-number = refused-rooms .second p
+
+    pub refused-close : {b : Line} → Puts a (decimal k) b → Room b (text ")")
+    refused-close q = refused-rooms .third p q
+
+  module _ {a : Line} (i : ℕ) (v : Figure) (p : Puts none (text "(proposed ") a) where
+    proposed-rooms : Rooms none (text "(proposed ") (decimal i) (text " ") (signed v) (text ")")
+    unfolding proposedText
+    proposed-rooms =
+        rooms (text "(proposed ") (decimal i) (text " ") (signed v) (text ")")
+        (holds-room [] (proposedText i v) h (omega (arith, proposed-short i v)))
+
+    module _ {b : Line} (q : Puts a (decimal i) b) where
+      module _ {d : Line} (s : Puts b (text " ") d) where
+        pub proposed-figure : Room d (signed v)
+        proposed-figure = proposed-rooms .fourth p q s
+
+        pub proposed-close : {e : Line} → Puts d (signed v) e → Room e (text ")")
+        proposed-close t = proposed-rooms .fifth p q s t
+
+  -- what stands before the figure has room with any
+  module _ {a : Line} (i : ℕ) (p : Puts none (text "(proposed ") a) where
+    pub proposed-number : Room a (decimal i)
+    proposed-number = proposed-rooms i (pos 0) p .second p
+
+    pub proposed-space : {b : Line} → Puts a (decimal i) b → Room b (text " ")
+    proposed-space q = proposed-rooms i (pos 0) p .third p q
 
   module _ {a r : Line} where
-    pub holds-refused : {d : Line} (k : ℕ) → Puts none (text "(refused ") a → Puts a (decimal k) d → Puts d (text ")") r → Holds r (refusedText k)
+    pub holds-refused : {d : Line} (k : ℕ) → Puts none (text "(refused ") a → Puts a (decimal k) d → Puts d (text ")") r
+        → Holds r (refusedText k)
     unfolding refusedText
     holds-refused k p q s = puts-holds (puts-then (puts-then p q) s) [] h
 
@@ -73,8 +113,9 @@ module _ {none : Line} (h : Holds none []) where
     holds-ran s t p q = subst (Holds r) (ran-is s t) (puts-holds (puts-then p q) [] h)
 
     -- z is the figure that the code passed on
-    pub holds-proposed : {b d e : Line} (i : ℕ) (v z : Figure) → Puts none (text "(proposed ") a → Puts a (decimal i) b → Puts b (text " ") d
-        → Puts d (signed z) e → Puts e (text ")") r → z ≡ v → Holds r (proposedText i v)
+    pub holds-proposed : {b d e : Line} (i : ℕ) (v z : Figure) → Puts none (text "(proposed ") a → Puts a (decimal i) b
+        → Puts b (text " ") d → Puts d (signed z) e → Puts e (text ")") r → z ≡ v → Holds r (proposedText i v)
     unfolding proposedText
     holds-proposed i v z p q s t u l =
-        subst (λ (x : Figure). Holds r (proposedText i x)) l (puts-holds (puts-then (puts-then (puts-then (puts-then p q) s) t) u) [] h)
+        subst (λ (x : Figure). Holds r (proposedText i x)) l
+        (puts-holds (puts-then (puts-then (puts-then (puts-then p q) s) t) u) [] h)

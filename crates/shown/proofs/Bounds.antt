@@ -1,13 +1,8 @@
--- What a caller of the crate needs beside its contracts: how long a status, the line of `show` and the lines of a run sheet can
--- be, and how the line of `show` is made of statuses.
+-- What a caller of the crate needs beside its contracts: how long a status, the line of `show` and the lines of a run
+-- sheet can be, and how the line of `show` is made of statuses.
 -- Relies on Decimals and Statuses; the lines of a run sheet, the call that shows a board and the player rely on it.
-use mathlib.Core.Path.{_≡_, ap}
-use mathlib.Core.List.{List, _++_, append-assoc}
-use mathlib.Core.Option.{none}
-use Prim.Native.Nat.{ℕ, zero, suc, _*_, _≤_, _<_}
-use native.Mathlib.Omega.{arith}
-use lib.IntN.{pos, negsuc}
-use lib.ListN.{length, length-append}
+use Rattle.model.proofs.Kit.{_≡_, ap, List, _++_, append-assoc, none, ℕ, zero, suc, _≤_, _<_, _*_, pos, negsuc, length}
+use Rattle.model.proofs.Kit.{length-append, arith}
 use Rattle.model.specs.declared.Verdict.the-variants.{Accepted}
 use Rattle.model.specs.Figure.{Figure}
 use Rattle.model.specs.Listing.{writing, reading, has-decided, is-spent, Station, idle, active}
@@ -73,7 +68,8 @@ good-island n K (active v (is-spent c x)) h g = g
 
 -- ---- the line of `show`
 
-pub statuses-more : (k n K : ℕ) (b : List ℕ) → statuses (suc k) n K b ≡ statuses k n K b ++ statusOf (suc k) (stationOf n K k b)
+pub statuses-more : (k n K : ℕ) (b : List ℕ)
+    → statuses (suc k) n K b ≡ statuses k n K b ++ statusOf (suc k) (stationOf n K k b)
 unfolding statuses statusOf
 statuses-more k n K b = simp append-assoc
 
@@ -81,7 +77,8 @@ no-statuses : (n K : ℕ) (b : List ℕ) → length (statuses 0 n K b) ≤ 0
 unfolding statuses
 no-statuses n K b = omega arith
 
-pub statuses-bound : (k n K : ℕ) (b : List ℕ) → k < 100 → ((j : ℕ) → j < k → islandShown (stationOf n K j b) < 100) → length (statuses k n K b) ≤ 28 * k
+pub statuses-bound : (k n K : ℕ) (b : List ℕ) → k < 100 → ((j : ℕ) → j < k → islandShown (stationOf n K j b) < 100)
+    → length (statuses k n K b) ≤ 28 * k
 statuses-bound zero n K b h f = no-statuses n K b
 statuses-bound (suc k) n K b h f =
     omega (
@@ -92,7 +89,8 @@ statuses-bound (suc k) n K b h f =
       status-bound (suc k) (stationOf n K k b) h (f k (omega arith)),
     )
 
-pub line-bound : (b : List ℕ) → stations b ≤ 16 → ((j : ℕ) → j < stations b → islandShown (stationOf (stations b) (islands b) j b) < 100)
+pub line-bound : (b : List ℕ) → stations b ≤ 16
+    → ((j : ℕ) → j < stations b → islandShown (stationOf (stations b) (islands b) j b) < 100)
     → length (shownLine b) ≤ 458
 unfolding shownLine text textFrom
 line-bound b h f =

@@ -1,15 +1,14 @@
 -- How long decimal numbers can be, and their digits written from the last on.
 -- Relies on the model's `decimal` and its digits; the proofs of numbers and the bounds on a status rely on it.
-use mathlib.Core.Path.{_≡_, refl, sym, ap, _∙_}
-use mathlib.Core.Logic.{⊎-elim}
-use mathlib.Core.List.{List, [], _∷_, _++_, append-assoc}
-use Prim.Native.Nat.{ℕ, zero, suc, _+_, _-_, _/_, _%_, _≤_, _<_}
-use native.Mathlib.Numerals.{add-one}
-use native.Mathlib.Omega.{arith}
-use lib.ListN.{length, length-append, drop, set, take, length-take, length-drop}
-use lib.Seq.{set-split, drop-at, take-all}
+use Rattle.model.proofs.Kit.{_≡_, refl, sym, ap, subst, _∙_, ⊎-elim, List, [], _∷_, _++_, append-assoc, ℕ, zero, suc}
+use Rattle.model.proofs.Kit.{_+_, _-_, _≤_, _<_, _/_, _%_, length, take, drop, length-drop, set, length-append}
+use Rattle.model.proofs.Kit.{take-all, add-one, arith}
+use lib.ListN.{length-take}
+use lib.Seq.{set-split, drop-at}
 use Rattle.model.specs.Show.{decimalIn, decimal}
 use Rattle.model.proofs.Basics.Decimals.{last-digit, in-one, in-more, below-ten, decimal-one, decimal-more}
+use Rattle.shown.specs.declared.line.Line.{Line}
+use Rattle.shown.specs.Puts.{Room}
 
 pub length-one : (x : ℕ) → x < 10 → length (decimal x) ≡ 1
 length-one x h = ap length (decimal-one x h)
@@ -33,7 +32,13 @@ length-in : (k x : ℕ) → length (decimalIn k x) ≤ k
 length-in zero x = omega (arith, no-digit x)
 length-in (suc k) x =
     ⊎-elim (λ (l : x < 10). omega (arith, ap length (in-one k x l), one-digit x))
-    (λ (l : 10 ≤ x). omega (arith, length-in k (x / 10), ap length (in-more k x l), length-append (decimalIn k (x / 10)) (last-digit x), one-digit x)) (below-ten x)
+    (λ (l : 10 ≤ x). omega (
+      arith,
+      length-in k (x / 10),
+      ap length (in-more k x l),
+      length-append (decimalIn k (x / 10)) (last-digit x),
+      one-digit x,
+    )) (below-ten x)
 
 pub length-any : (x : ℕ) → length (decimal x) ≤ 10
 unfolding decimal
@@ -63,7 +68,13 @@ module _ (bytes : List ℕ) (from : ℕ) (h : from < length bytes) where
       ∙ ap (λ (d : List ℕ). d ++ drop (from + 1) bytes) (sym (decimal-more x l (omega arith)))
 
 -- the part of the bytes that the code hands on
-pub digits-part : (bytes : List ℕ) (from x : ℕ) → length bytes ≡ 10 → drop from bytes ≡ decimal x → take (10 - from) (drop from bytes) ≡ decimal x
+pub digits-part : (bytes : List ℕ) (from x : ℕ) → length bytes ≡ 10 → drop from bytes ≡ decimal x
+    → take (10 - from) (drop from bytes) ≡ decimal x
 digits-part bytes from x n e =
     let h : length (drop from bytes) ≤ 10 - from = omega (arith, length-drop from bytes) in
     take-all _ _ h ∙ e
+
+pub digits-room : {line : Line} (bytes : List ℕ) (from x : ℕ) → length bytes ≡ 10 → drop from bytes ≡ decimal x
+    → Room line (decimal x)
+    → Room line (take (10 - from) (drop from bytes))
+digits-room {line} bytes from x n e h = subst (Room line) (sym (digits-part bytes from x n e)) h

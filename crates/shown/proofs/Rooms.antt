@@ -1,10 +1,7 @@
 -- Room in a line: what there is of it before a text, and behind one text after another.
 -- Relies on Putting; the proofs of every writer of more than one piece rely on it, and so do its callers.
-use mathlib.Core.Path.{_≡_, ap, sym, _∙_, subst}
-use mathlib.Core.List.{List, [], _∷_, _++_, append-nil}
-use Prim.Native.Nat.{ℕ, _+_, _≤_, _<_}
-use native.Mathlib.Omega.{arith}
-use lib.ListN.{length, getD, take, length-append, length-replicate}
+use Rattle.model.proofs.Kit.{_≡_, sym, ap, subst, _∙_, List, [], _∷_, _++_, append-nil, ℕ, _+_, _≤_, _<_, length, take}
+use Rattle.model.proofs.Kit.{length-replicate, getD, length-append, arith}
 use lib.Seq.{length-take-le}
 use Rattle.model.proofs.Basics.Splices.{length-splice}
 use Rattle.shown.specs.declared.line.Line.{Line}
@@ -26,14 +23,18 @@ room-first s t h = record { size = h .size; fits = omega (arith, h .fits, length
 
 pub room-next : {line a : Line} (s t : List ℕ) → Room line (s ++ t) → Puts line s a → Room a t
 room-next {line} s t h p = record {
-  size = ap length (p .bytes) ∙ length-splice (line .len) s (line .bytes) (omega (arith, h .size, h .fits, length-append s t)) ∙ h .size;
+  size =
+      ap length (p .bytes) ∙ length-splice (line .len) s (line .bytes)
+      (omega (arith, h .size, h .fits, length-append s t)) ∙ h .size;
   fits = omega (arith, p .len, h .fits, length-append s t);
 }
 
 -- the next byte of a word
-pub room-byte : {line a : Line} (word : List ℕ) (i : ℕ) → Room line word → i < length word → Puts line (take i word) a → Room a (getD word i 0 ∷ [])
+pub room-byte : {line a : Line} (word : List ℕ) (i : ℕ) → Room line word → i < length word → Puts line (take i word) a
+    → Room a (getD word i 0 ∷ [])
 room-byte word i h l p =
-    let n : length (take i word ++ (getD word i 0 ∷ [])) ≡ i + 1 = length-append (take i word) (getD word i 0 ∷ []) ∙ ap (λ (k : ℕ). k + 1) (length-take-le i word (omega arith)) in
+    let n : length (take i word ++ (getD word i 0 ∷ [])) ≡ i + 1 =
+    length-append (take i word) (getD word i 0 ∷ []) ∙ ap (λ (k : ℕ). k + 1) (length-take-le i word (omega arith)) in
     room-next (take i word) (getD word i 0 ∷ []) (record { size = h .size; fits = omega (arith, h .fits, n) }) p
 
 -- a text of five pieces: each has room where the one before it ends

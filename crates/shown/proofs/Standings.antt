@@ -1,7 +1,6 @@
 -- How a station stands, as the code tells it at each phase.
 -- Relies on the model's standing by phase; the proof of `standing_of` relies on it.
-use mathlib.Core.Path.{_≡_, sym, ap, _∙_}
-use Prim.Native.Nat.{_≤_, _<_}
+use Rattle.model.proofs.Kit.{_≡_, sym, ap, _∙_, _≤_, _<_}
 use Rattle.model.specs.declared.Record.{Record}
 use Rattle.model.specs.declared.Standing.the-variants.{Idle, Going, Decided, Spent}
 use Rattle.model.specs.Figure.{Figure}

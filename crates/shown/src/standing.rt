@@ -3,6 +3,8 @@
 // on it.
 use model::Record;
 use model::Standing;
+use model::phase::DECIDED;
+use model::phase::IDLE;
 ghost use mathlib.Core.Path.{_≡_};
 ghost use Rattle.model.specs.Layout.{recordValue};
 ghost use Rattle.model.specs.Standing.{standingOf};
@@ -14,13 +16,13 @@ pub fn standing_of(station: Record) -> Standing
 {
     let island = station.island;
     let figure = station.carried;
-    if station.phase == 0 {
+    if station.phase == IDLE {
         return Standing::Idle;
     }
-    if station.phase < 7 {
+    if station.phase < DECIDED {
         return Standing::Going { island, figure };
     }
-    if station.phase == 7 {
+    if station.phase == DECIDED {
         return Standing::Decided { island, figure };
     }
     Standing::Spent { island, figure }

@@ -1,3 +1,4 @@
--- The laws by what they are about.
+-- Laws over plain variables.
+pub mod Placing
 pub mod Rows
 pub mod Verdicts

@@ -1,5 +1,5 @@
 // The whole board: soundness, and refusals 7 to 11 in checking order.
-// Relies on registers and records; every call over a lent board relies on it.
+// Relies on shape, registers and records; every call over a lent board relies on it.
 ghost use mathlib.Core.Path.{_≡_};
 ghost use mathlib.Core.Option.{none};
 ghost use Prim.Native.Nat.{_≤_};
@@ -10,11 +10,13 @@ ghost use Rattle.model.specs.Sound as Model;
 ghost use Rattle.model.specs.Calls.{boardRefusal};
 ghost use Rattle.model.specs.Told.{verdict};
 use crate::registers::registers_sound;
-use codec::places::board_length;
+use crate::shape::islands_in_range;
+use crate::shape::shape_refusal;
+use crate::shape::stations_in_range;
+use figures::zeros::zero_pair;
+use figures::zeros::zero_word;
 use model::Verdict;
 use record_soundness::records::records_sound;
-use record_soundness::zeros::zero_pair;
-use record_soundness::zeros::zero_word;
 
 fn head_sound(s: &[u8]) -> bool
     requires { ⌜ 8 ≤ length (now s) ⌝ }
@@ -39,31 +41,20 @@ fn sound(board: &[u8], n: usize, k: usize) -> bool
     records_sound(board, n, k)
 }
 
-// Any bytes of any length are answered: n and K are read only once the head is there.
+// Any bytes of any length are answered. A shorter board has no head to read n and K from.
 pub fn check_board(board: &[u8]) -> Verdict
     ensures { λ r. ⌜ verdict r ≡ boardRefusal (now (board .entry)) none ⌝ }
 {
     if board.len() < 8 {
         return Verdict::Refused { number: 7 };
     }
-    let n = board[0] as usize;
-    if n < 1 {
-        return Verdict::Refused { number: 8 };
+    let n = board[0];
+    let k = board[1];
+    let number = shape_refusal(board, n, k, stations_in_range(n), islands_in_range(k));
+    if number != 0 {
+        return Verdict::Refused { number };
     }
-    if 16 < n {
-        return Verdict::Refused { number: 8 };
-    }
-    let k = board[1] as usize;
-    if k < 2 {
-        return Verdict::Refused { number: 9 };
-    }
-    if 64 < k {
-        return Verdict::Refused { number: 9 };
-    }
-    if board.len() != board_length(n, k) {
-        return Verdict::Refused { number: 10 };
-    }
-    if !sound(board, n, k) {
+    if !sound(board, n as usize, k as usize) {
         return Verdict::Refused { number: 11 };
     }
     Verdict::Accepted

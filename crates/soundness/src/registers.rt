@@ -9,8 +9,8 @@ ghost use Rattle.model.specs.Listing.{inA, inB};
 ghost use Rattle.model.specs.Layout.{boardLength};
 ghost use Rattle.model.specs.Sound.{registerSound, arraySound, registersSound};
 use figures::word_at;
-use record_soundness::zeros::zero_pair;
-use record_soundness::zeros::zero_word;
+use figures::zeros::zero_pair;
+use figures::zeros::zero_word;
 
 // The mark, the island and two zeros are read as one number, which decides all but the n registers of m: in A and B the
 // island is zero, so that the number of a filled register is its mark.

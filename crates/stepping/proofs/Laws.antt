@@ -1,4 +1,5 @@
 -- Laws over plain variables, one subject a file.
+pub mod Ready
 pub mod Touching
 pub mod Putting
 pub mod Accessing

@@ -16,7 +16,8 @@ use Rattle.model.specs.Runs.{taken, answers, after}
 
 -- the offset r of the one register that station index j touches next
 unfoldable pub Touches : (n j : ℕ) (f : Record) (r : ℕ) → Type 0
-Touches n j f r = (s : Stage Figure) → recordValue f ≡ active (f .proposal) s → r ≡ registerAt n (placeArray s) (placeColumn j s)
+Touches n j f r =
+    (s : Stage Figure) → recordValue f ≡ active (f .proposal) s → r ≡ registerAt n (placeArray s) (placeColumn j s)
 
 -- the answer r and the bytes d of an accepted step of station index j on the board b
 unfoldable pub Accesses : (n K j : ℕ) (f : Record) (b : List ℕ) (r : StepAnswer) (d : List ℕ) → Type 0

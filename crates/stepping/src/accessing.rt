@@ -14,6 +14,11 @@ use codec::registers::put_register;
 use codec::registers::register_at;
 use model::Record;
 use model::StepAnswer;
+use model::phase::READ_A;
+use model::phase::READ_M;
+use model::phase::WRITE_A;
+use model::phase::WRITE_B;
+use model::phase::WRITE_M;
 use stepper::move_station;
 
 // The offset of the one register that the station with index j touches next: its own when it writes, the next position
@@ -25,19 +30,19 @@ fn touched(n: u8, k: u8, j: usize, station: Record) -> usize
     let stations = n as usize;
     let island = station.island as usize;
     let next = station.position as usize;
-    if station.phase == 1 {
+    if station.phase == WRITE_M {
         return register_offset(stations, 0, j);
     }
-    if station.phase == 2 {
+    if station.phase == READ_M {
         return register_offset(stations, 0, next);
     }
-    if station.phase == 3 {
+    if station.phase == WRITE_A {
         return register_offset(stations, 1 + 2 * island, j);
     }
-    if station.phase == 4 {
+    if station.phase == READ_A {
         return register_offset(stations, 1 + 2 * island, next);
     }
-    if station.phase == 5 {
+    if station.phase == WRITE_B {
         return register_offset(stations, 2 + 2 * island, j);
     }
     register_offset(stations, 2 + 2 * island, next)

@@ -1,6 +1,6 @@
 // One step, and a run of steps, on a lent board: refusals in checking order, then one register access for each.
-// `step` and `run` are public calls; the walk over the items of a line shares the step of a sound board, which has a `requires`.
-// Relies on the test of a board, the codec and the stepper of a lent record; the public calls and the walk over items rely on it.
+// `step` and `run` are public calls; the run of a line's items shares the step of a sound board, which has a `requires`.
+// Relies on the test of a board, the codec and the stepper of a lent record; the public calls and the run of items rely on it.
 mod accessing;
 pub mod running;
 pub mod single;

@@ -17,28 +17,10 @@ use soundness::board::check_board;
 pub fn taken(answer: StepAnswer) -> u32
     ensures { λ r. ⌜ r ≡ counts answer ⌝ }
 {
-    match answer {
-        StepAnswer::Wrote => 1,
-        StepAnswer::Read => 1,
-        StepAnswer::Went {
-            island: _,
-            figure: _,
-        } => 1,
-        StepAnswer::Marked { flag: _, figure: _ } => 1,
-        StepAnswer::Adopted {
-            island: _,
-            figure: _,
-        } => 1,
-        StepAnswer::Decided {
-            island: _,
-            figure: _,
-        } => 1,
-        StepAnswer::Spent {
-            island: _,
-            figure: _,
-        } => 1,
-        StepAnswer::Refused { number: _ } => 0,
+    if let StepAnswer::Refused { number: _ } = answer {
+        return 0;
     }
+    1
 }
 
 // The steps taken by the stations of the list, one after another, on a board that is known to be sound.

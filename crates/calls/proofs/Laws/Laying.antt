@@ -1,30 +1,14 @@
 -- Laying: the answer and bytes at each return.
--- Relies on the model's refusals; the proof of `lay` relies on it.
-use mathlib.Core.Path.{_≡_, refl, sym, ap, _∙_}
-use mathlib.Core.List.{List, _∷_}
-use mathlib.Core.Option.{none, some}
-use Prim.Native.Nat.{ℕ, suc, _-_, _≤_}
-use native.Mathlib.Omega.{arith}
-use lib.ListN.{length, replicate, set, length-replicate}
+-- Relies on the model's refusals and on what the shape's function promises; the proof of `lay` relies on it.
+use Rattle.model.proofs.Kit.{_≡_, refl, sym, ap, _∙_, Bool, List, _∷_, none, some, ℕ, suc, _-_, _<_, length, replicate}
+use Rattle.model.proofs.Kit.{set, length-replicate, length-set, arith}
 use Rattle.model.specs.declared.Verdict.the-variants.{Accepted, Refused}
 use Rattle.model.specs.Layout.{boardLength, freshBoard}
-use Rattle.model.specs.Calls.{Refusal, shapeRefusal, unlessRefused, lay}
+use Rattle.model.specs.Calls.{Refusal, ranges, shapeRefusal, unlessRefused, lay}
 use Rattle.model.specs.Told.{verdict}
-use Rattle.model.proofs.Calls.Refusals.{Shape, shape-passes}
-
--- a refusal: its number, and the bytes as they were
-pub turned-down : (n K : ℕ) (b : List ℕ) (k : ℕ) → shapeRefusal n K b none ≡ some k
-    → (verdict (Refused k) ≡ lay n K b .answer) × (b ≡ lay n K b .bytes)
-unfolding lay verdict unlessRefused
-turned-down n K b k e =
-    let p : some k ≡ shapeRefusal n K b none = sym e in (
-      ap (λ (r : Refusal). unlessRefused r some b (record { answer = none; bytes = freshBoard n K }) .answer) p,
-      ap (λ (r : Refusal). unlessRefused r some b (record { answer = none; bytes = freshBoard n K }) .bytes) p,
-    )
-
--- clearing keeps the length
-pub cleared : (s b : List ℕ) → s ≡ replicate (length b) 0 → 2 ≤ length b → 2 ≤ length s
-cleared s b e h = omega (arith, ap length e ∙ length-replicate (length b) 0)
+use Rattle.model.proofs.Calls.Refusals.{Shape, shape-of}
+use Rattle.soundness.specs.Shaped.{numbered, Shaped}
+use Rattle.soundness.proofs.Laws.Verdicts.{refused-by, passed-by}
 
 -- a cleared board with n and K in front
 two-set : (n K m : ℕ) → set (set (replicate (suc (suc m)) 0) 0 n) 1 K ≡ n ∷ K ∷ replicate m 0
@@ -38,12 +22,54 @@ fresh-set n K m e =
     long : boardLength n K ≡ suc (suc (boardLength n K - 2))
     long = omega arith
 
-pub laid : (n K : ℕ) (b s : List ℕ) → Shape n K b → s ≡ replicate (length b) 0
-    → (verdict Accepted ≡ lay n K b .answer) × (set (set s 0 n) 1 K ≡ lay n K b .bytes)
-unfolding lay verdict unlessRefused
-laid n K b s h e =
-    let p : none ≡ shapeRefusal n K b none = sym (shape-passes n K b h none) in (
-      ap (λ (r : Refusal). unlessRefused r some b (record { answer = none; bytes = freshBoard n K }) .answer) p,
-      ap (λ (l : List ℕ). set (set l 0 n) 1 K) e ∙ fresh-set n K (length b) (h .len)
-          ∙ ap (λ (r : Refusal). unlessRefused r some b (record { answer = none; bytes = freshBoard n K }) .bytes) p,
-    )
+module _ (n K : ℕ) (b : List ℕ) (s i : Bool) (es : s ≡ ranges .stationsIn n) (ei : i ≡ ranges .islandsIn K) (r : ℕ)
+    (sh : Shaped n K s i b r) where
+  said : numbered r ≡ shapeRefusal ranges n K b none
+  unfolding Shaped
+  said = sh ranges es ei
+
+  by-shape : (q : Refusal) → numbered r ≡ q
+      → (q ≡ lay n K b .answer)
+      × (unlessRefused q some b (record { answer = none; bytes = freshBoard n K }) .bytes ≡ lay n K b .bytes)
+  unfolding lay unlessRefused
+  by-shape q e = (
+    answers q
+        ∙ ap (λ (r : Refusal). unlessRefused r some b (record { answer = none; bytes = freshBoard n K }) .answer)
+        (sym e ∙ said),
+    ap (λ (r : Refusal). unlessRefused r some b (record { answer = none; bytes = freshBoard n K }) .bytes)
+        (sym e ∙ said),
+  )
+    where
+      answers : (q : Refusal) → q ≡ unlessRefused q some b (record { answer = none; bytes = freshBoard n K }) .answer
+      answers none = refl
+      answers (some k) = refl
+
+  -- a refusal: its number, and the bytes as they were
+  module _ (h : r ≡ 0 → ⊥) where
+    pub refused-answer : verdict (Refused r) ≡ lay n K b .answer
+    unfolding verdict
+    refused-answer = by-shape (some r) (refused-by r h) .0
+
+    pub refused-bytes : b ≡ lay n K b .bytes
+    unfolding unlessRefused
+    refused-bytes = by-shape (some r) (refused-by r h) .1
+
+  module _ (e : r ≡ 0) (c : List ℕ) (ec : c ≡ replicate (length b) 0) where
+    shape : Shape n K b
+    shape = shape-of n K b none (sym said ∙ passed-by r e) .0
+
+    pub first-byte : 0 < length c
+    first-byte = omega (arith, ap length ec ∙ length-replicate (length b) 0, shape .long)
+
+    pub second-byte : 1 < length (set c 0 n)
+    second-byte = simp length-set (omega (arith, ap length ec ∙ length-replicate (length b) 0, shape .long))
+
+    pub laid-answer : verdict Accepted ≡ lay n K b .answer
+    unfolding verdict
+    laid-answer = by-shape none (passed-by r e) .0
+
+    pub laid-bytes : set (set c 0 n) 1 K ≡ lay n K b .bytes
+    unfolding unlessRefused
+    laid-bytes =
+        ap (λ (l : List ℕ). set (set l 0 n) 1 K) ec ∙ fresh-set n K (length b) (shape .len)
+        ∙ by-shape none (passed-by r e) .1

@@ -1,21 +1,25 @@
 -- Proposing: the answer and bytes at each return.
--- Relies on the model's refusals and on Stepping's reading of the head; the proofs of `propose` rely on it.
-use mathlib.Core.Path.{_≡_, refl, sym, ap, _∙_}
-use mathlib.Core.List.{List}
-use mathlib.Core.Option.{none, some}
-use Prim.Native.Nat.{ℕ, zero, suc, _-_, _≤_, _<_}
-use lib.ListN.{getD}
+-- Relies on the model's refusals and on the place of a station; the proofs of `propose` rely on it.
+use Rattle.model.proofs.Kit.{_≡_, refl, sym, ap, _∙_, List, none, some, ℕ, zero, suc, _-_, getD, toZ-ofZ, w32, toZ, ofZ}
+use Rattle.model.proofs.Kit.{SFits}
 use Rattle.model.specs.declared.Record.{Record}
 use Rattle.model.specs.declared.Verdict.{Verdict}
 use Rattle.model.specs.declared.Verdict.the-variants.{Accepted, Refused}
 use Rattle.model.specs.Bytes.{part, splice}
 use Rattle.model.specs.Figure.{Figure}
 use Rattle.model.specs.Listing.{proposed}
-use Rattle.model.specs.Layout.{recordAt, readRecord, layRecord, recordFields, writingOf, readingOf, ofPhase, recordValue, recordOf, stationOf}
-use Rattle.model.specs.Calls.{After, Refusal, stations, islands, boardRefusal, stationRefusal, stationAt, unlessRefused, putStation, notIdle, propose}
+use Rattle.model.specs.Layout.{recordAt, readRecord, layRecord, recordFields, writingOf, readingOf, ofPhase}
+use Rattle.model.specs.Layout.{recordValue}
+use Rattle.model.specs.Calls.{After, Refusal, stations, islands, boardRefusal, stationRefusal, stationAt, unlessRefused}
+use Rattle.model.specs.Calls.{putStation, notIdle, propose}
 use Rattle.model.specs.Told.{verdict}
-use Rattle.model.proofs.Calls.Refusals.{board-of, board-passes, board-first, OnBoard, station-passes, station-12-low, station-12-high}
+use Rattle.model.proofs.Calls.Refusals.{board-of, board-passes, board-first, OnBoard, station-passes}
+use Rattle.soundness.specs.declared.place.Place.{Place}
+use Rattle.soundness.specs.declared.place.Place.the-variants as places
+use Rattle.soundness.specs.Placed.{On, Placed}
+use Rattle.soundness.proofs.Laws.Placing.{at-place, not-placed, own-value}
 use Rattle.stepping.proofs.Laws.Checking.{turned}
+use Rattle.calls.specs.Proposing.{Proposes}
 
 -- a sound board passes its own refusals, whatever comes after them
 pub past-board : (b : List ℕ) → boardRefusal b none ≡ none → (later : Refusal) → boardRefusal b later ≡ later
@@ -26,8 +30,8 @@ done i v b = record { answer = none; bytes = putStation (stations b) (islands b)
 
 module _ (i : ℕ) (v : Figure) (b : List ℕ) where
   refuses : (k : ℕ) → boardRefusal b (stationRefusal i b (notIdle (stationAt i b))) ≡ some k
-      → (verdict (Refused k) ≡ propose i v b .answer) × (b ≡ propose i v b .bytes)
-  unfolding propose unlessRefused verdict
+      → Proposes i v b (Refused k) b
+  unfolding Proposes propose unlessRefused verdict
   refuses k e = (
     ap (λ (r : Refusal). unlessRefused r some b (done i v b) .answer) (sym e),
     ap (λ (r : Refusal). unlessRefused r some b (done i v b) .bytes) (sym e),
@@ -35,28 +39,24 @@ module _ (i : ℕ) (v : Figure) (b : List ℕ) where
 
   pub board-refuses : (w : Verdict) (k : ℕ) → w ≡ Refused k → verdict w ≡ boardRefusal b none
       → (verdict (Refused k) ≡ propose i v b .answer) × (b ≡ propose i v b .bytes)
+  unfolding Proposes
   board-refuses w k e h = refuses k (board-first b _ k (turned b w k e h))
 
   module _ (sound : boardRefusal b none ≡ none) where
-    pub twelve-low : i < 1 → (verdict (Refused 12) ≡ propose i v b .answer) × (b ≡ propose i v b .bytes)
-    twelve-low h = refuses 12 (past-board b sound _ ∙ station-12-low i b _ h)
+    pub no-station : (p : Place) → p ≡ places.Nowhere → Placed i b p → Proposes i v b (Refused 12) b
+    no-station p e h = refuses 12 (past-board b sound _ ∙ not-placed i b p e h _)
 
-    pub twelve-high : getD b 0 0 < i → (verdict (Refused 12) ≡ propose i v b .answer) × (b ≡ propose i v b .bytes)
-    unfolding stations
-    twelve-high h = refuses 12 (past-board b sound _ ∙ station-12-high i b _ h)
-
-    module _ (low : 1 ≤ i) (high : i ≤ getD b 0 0) (f : Record)
-        (e : f ≡ readRecord (part (recordAt (getD b 0 0) (getD b 1 0) (i - 1)) 24 b)) where
-      stands : stationAt i b ≡ recordValue f
-      unfolding stationAt stationOf recordOf stations islands
-      stands = ap recordValue (sym e)
+    module _ (p : Place) (j at : ℕ) (is : p ≡ places.At j at) (h : Placed i b p)
+        (f : Record) (e : f ≡ readRecord (part at 24 b)) where
+      on : On i b j at
+      on = at-place i b p j at is h
 
       on-board : OnBoard i b
       unfolding stations
-      on-board = record { low = low; high = high }
+      on-board = record { low = on .low; high = on .high }
 
       passes : boardRefusal b (stationRefusal i b (notIdle (stationAt i b))) ≡ notIdle (recordValue f)
-      passes = past-board b sound _ ∙ station-passes i b on-board _ ∙ ap notIdle stands
+      passes = past-board b sound _ ∙ station-passes i b on-board _ ∙ ap notIdle (own-value i b j at on f e)
 
       -- any phase but 0 is that of a station that has proposed
       busy : (k : ℕ) → (k ≡ 0 → ⊥) → notIdle (ofPhase k f) ≡ some 13
@@ -71,20 +71,28 @@ module _ (i : ℕ) (v : Figure) (b : List ℕ) where
       busy (suc (suc (suc (suc (suc (suc (suc zero))))))) h = refl
       busy (suc (suc (suc (suc (suc (suc (suc (suc k)))))))) h = refl
 
-      pub thirteen : (f .phase ≡ 0 → ⊥) → (verdict (Refused 13) ≡ propose i v b .answer) × (b ≡ propose i v b .bytes)
+      pub thirteen : (f .phase ≡ 0 → ⊥) → Proposes i v b (Refused 13) b
       unfolding recordValue
       thirteen h = refuses 13 (passes ∙ busy (f .phase) h)
 
-      pub taken : f .phase ≡ 0 → (at : ℕ) (g : Record) (d : List ℕ) → at ≡ recordAt (getD b 0 0) (getD b 1 0) (i - 1) → g ≡ recordFields (proposed v)
-          → d ≡ splice at (layRecord g) b → (verdict Accepted ≡ propose i v b .answer) × (d ≡ propose i v b .bytes)
-      unfolding propose unlessRefused verdict recordValue ofPhase notIdle putStation stations islands
-      taken h at g d ea eg ed =
-          let q = sym (passes ∙ ap (λ (k : ℕ). notIdle (ofPhase k f)) h) in (
+      pub taken : f .phase ≡ 0 → SFits w32 v → (g : Record) (d : List ℕ)
+          → g ≡ recordFields (proposed (toZ w32 (ofZ w32 v)))
+          → d ≡ splice at (layRecord g) b → Proposes i v b Accepted d
+      unfolding Proposes propose unlessRefused verdict recordValue ofPhase notIdle putStation stations islands
+      taken z fits g d eg ed =
+          let q = sym (passes ∙ ap (λ (k : ℕ). notIdle (ofPhase k f)) z) in
+          let here = on .place ∙ ap (recordAt (getD b 0 0) (getD b 1 0)) (on .index) in
+          let own = eg ∙ ap (λ (x : Figure). recordFields (proposed x)) (toZ-ofZ fits) in (
             ap (λ (r : Refusal). unlessRefused r some b (done i v b) .answer) q,
-            ed ∙ (λ j. splice (ea j) (layRecord (eg j)) b) ∙ ap (λ (r : Refusal). unlessRefused r some b (done i v b) .bytes) q,
+            ed ∙ (λ k. splice (here k) (layRecord (own k)) b)
+                ∙ ap (λ (r : Refusal). unlessRefused r some b (done i v b) .bytes) q,
           )
 
 -- the figure as it was passed on
-pub same-figure : (i : ℕ) (v w : Figure) (b : List ℕ) (r : Verdict) (d : List ℕ) → v ≡ w
-    → (verdict r ≡ propose i v b .answer) × (d ≡ propose i v b .bytes) → (verdict r ≡ propose i w b .answer) × (d ≡ propose i w b .bytes)
-same-figure i v w b r d e h = (h .0 ∙ ap (λ (x : Figure). propose i x b .answer) e, h .1 ∙ ap (λ (x : Figure). propose i x b .bytes) e)
+pub same-figure : (i : ℕ) (v : Figure) (b : List ℕ) (r : Verdict) (d : List ℕ) → SFits w32 v
+    → Proposes i (toZ w32 (ofZ w32 v)) b r d → (verdict r ≡ propose i v b .answer) × (d ≡ propose i v b .bytes)
+unfolding Proposes
+same-figure i v b r d fits h = (
+  h .0 ∙ ap (λ (x : Figure). propose i x b .answer) (toZ-ofZ fits),
+  h .1 ∙ ap (λ (x : Figure). propose i x b .bytes) (toZ-ofZ fits),
+)

@@ -1,13 +1,7 @@
 -- The shown line: one more station, the whole of it, and the answer at each return.
 -- Relies on the laws of the writer of lines and on the model's soundness; the proofs of `show` rely on it.
-use mathlib.Core.Path.{_≡_, refl, sym, ap, _∙_, subst}
-use mathlib.Core.List.{List, [], _++_, append-assoc, append-nil}
-use mathlib.Core.Option.{none, some}
-use Prim.Native.Nat.{ℕ, _+_, _≤_, _<_}
-use native.Mathlib.Numerals.{add-one}
-use native.Mathlib.Omega.{arith}
-use lib.Dec.{leb, le→leb}
-use lib.ListN.{length, getD, replicate, length-append}
+use Rattle.model.proofs.Kit.{_≡_, refl, sym, ap, subst, _∙_, List, [], _++_, append-assoc, append-nil, none, some, ℕ}
+use Rattle.model.proofs.Kit.{_+_, _≤_, _<_, leb, le→leb, length, replicate, getD, length-append, add-one, arith}
 use Rattle.model.specs.declared.Record.{Record}
 use Rattle.model.specs.declared.Verdict.{Verdict}
 use Rattle.model.specs.declared.Verdict.the-variants.{Accepted, Refused}
@@ -29,7 +23,7 @@ use Rattle.shown.proofs.Bounds.{status-bound, good-island, statuses-more, statu
 use Rattle.calls.specs.Showing.{openTo, Opened}
 use Rattle.model.proofs.Board.Places.{record-inside}
 use Rattle.stepping.proofs.Laws.Checking.{turned}
-use Rattle.stepping.proofs.Laws.Stepping.{head}
+use Rattle.soundness.proofs.Laws.Placing.{head}
 
 module _ (b : List ℕ) (sound : boardRefusal b none ≡ none) where
   h : Board b
@@ -40,7 +34,8 @@ module _ (b : List ℕ) (sound : boardRefusal b none ≡ none) where
       omega (
         arith,
         h .shape .islands-high,
-        good-island (stations b) (islands b) (stationOf (stations b) (islands b) j b) (omega (arith, h .shape .islands-low))
+        good-island (stations b) (islands b) (stationOf (stations b) (islands b) j b)
+            (omega (arith, h .shape .islands-low))
             (sound-station (stations b) (islands b) b (h .sound-board) j l .good),
       )
 
@@ -50,7 +45,8 @@ module _ (b : List ℕ) (sound : boardRefusal b none ≡ none) where
       simp length-append (omega (
         arith,
         h .shape .stations-high,
-        statuses-bound k (stations b) (islands b) b (omega (arith, h .shape .stations-high)) (λ j q. islands-short j (omega arith)),
+        statuses-bound k (stations b) (islands b) b (omega (arith, h .shape .stations-high))
+            (λ j q. islands-short j (omega arith)),
       ))
 
   -- one more status fits
@@ -58,7 +54,8 @@ module _ (b : List ℕ) (sound : boardRefusal b none ≡ none) where
       → recordValue f ≡ stationOf (stations b) (islands b) j b → Room line (statusOf i (recordValue f))
   unfolding stations
   fits-one line j i f q l e r =
-      holds-room (openTo j b) (statusOf i (recordValue f)) q (omega (arith, open-short j (omega arith), h .shape .stations-high, bound))
+      holds-room (openTo j b) (statusOf i (recordValue f)) q
+      (omega (arith, open-short j (omega arith), h .shape .stations-high, bound))
     where
       bound : length (statusOf i (recordValue f)) ≤ 28
       bound =
@@ -66,14 +63,16 @@ module _ (b : List ℕ) (sound : boardRefusal b none ≡ none) where
           (subst (λ (z : Station Figure). islandShown z < 100) (sym r) (islands-short j l))
 
   pub one-more : (line next : Line) (j i : ℕ) (f : Record) → Holds line (openTo j b) → i ≡ j + 1
-      → recordValue f ≡ stationOf (stations b) (islands b) j b → Puts line (statusOf i (recordValue f)) next → Holds next (openTo (j + 1) b)
+      → recordValue f ≡ stationOf (stations b) (islands b) j b → Puts line (statusOf i (recordValue f)) next
+      → Holds next (openTo (j + 1) b)
   unfolding openTo
   one-more line next j i f q e r p =
       subst (Holds next)
       (append-assoc (text "(stations") (statuses j (stations b) (islands b) b) (statusOf i (recordValue f))
       ∙ ap (λ (l : List ℕ). text "(stations" ++ l)
       ((λ k. statuses j (stations b) (islands b) b ++ statusOf ((e ∙ add-one j) k) (r k))
-      ∙ sym (statuses-more j (stations b) (islands b) b) ∙ ap (λ (k : ℕ). statuses k (stations b) (islands b) b) (sym (add-one j))))
+      ∙ sym (statuses-more j (stations b) (islands b) b)
+      ∙ ap (λ (k : ℕ). statuses k (stations b) (islands b) b) (sym (add-one j))))
       (puts-holds p (openTo j b) q)
 
   pub begins : (line : Line) → Holds line (text "(stations") → Holds line (openTo 0 b)
@@ -102,23 +101,30 @@ module _ (b : List ℕ) (sound : boardRefusal b none ≡ none) where
   shows =
       ap (λ (r : Refusal). shownAs r (shownLine b))
       (sym (board-passes b h (unless (leb (length (shownLine b)) 512) 17 none)
-      ∙ unless-passes (leb (length (shownLine b)) 512) 17 none (le→leb (length (shownLine b)) 512 (omega (arith, line-short)))))
+      ∙ unless-passes (leb (length (shownLine b)) 512) 17 none
+      (le→leb (length (shownLine b)) 512 (omega (arith, line-short)))))
 
 -- ---- a refused board
 
-pub not-shown : (k : ℕ) → shownTold (record { verdict = Refused k; bytes = replicate 512 0; len = 0 }) ≡ shownAs (some k) []
+pub not-shown : (k : ℕ)
+    → shownTold (record { verdict = Refused k; bytes = replicate 512 0; len = 0 }) ≡ shownAs (some k) []
 unfolding shownTold verdict shownAs
 not-shown k = refl
 
-pub refused-shown : (b : List ℕ) (v : Verdict) (k : ℕ) → v ≡ Refused k → verdict v ≡ boardRefusal b none → shownAs (some k) [] ≡ show b
+pub refused-shown : (b : List ℕ) (v : Verdict) (k : ℕ) → v ≡ Refused k → verdict v ≡ boardRefusal b none
+    → shownAs (some k) [] ≡ show b
 unfolding show shownAs
-refused-shown b v k e h = ap (λ (r : Refusal). shownAs r (shownLine b)) (sym (board-first b (unless (leb (length (shownLine b)) 512) 17 none) k (turned b v k e h)))
+refused-shown b v k e h =
+    ap (λ (r : Refusal). shownAs r (shownLine b))
+    (sym (board-first b (unless (leb (length (shownLine b)) 512) 17 none) k (turned b v k e h)))
 
 -- the record as the code read it
-pub value-at : (b : List ℕ) (j at : ℕ) (f : Record) → at ≡ recordAt (getD b 0 0) (getD b 1 0) j → f ≡ readRecord (part at 24 b)
+pub value-at : (b : List ℕ) (j at : ℕ) (f : Record) → at ≡ recordAt (getD b 0 0) (getD b 1 0) j
+    → f ≡ readRecord (part at 24 b)
     → recordValue f ≡ stationOf (stations b) (islands b) j b
 unfolding stationOf recordOf stations islands
 value-at b j at f e q = ap recordValue q ∙ ap (λ (k : ℕ). recordValue (readRecord (part k 24 b))) e
 
-pub record-inside-at : (b : List ℕ) (j at : ℕ) → boardRefusal b none ≡ none → j < getD b 0 0 → at ≡ recordAt (getD b 0 0) (getD b 1 0) j → at + 24 ≤ length b
+pub record-inside-at : (b : List ℕ) (j at : ℕ) → boardRefusal b none ≡ none → j < getD b 0 0
+    → at ≡ recordAt (getD b 0 0) (getD b 1 0) j → at + 24 ≤ length b
 record-inside-at b j at s l e = omega (arith, record-inside (getD b 0 0) (getD b 1 0) j l, head b s .len)

@@ -1,12 +1,6 @@
 -- The calls on a lent board: a call's own promise, with its answer packed.
 -- Relies on the packing's definitions and on the model's runs; the proofs of `board` rely on it.
-use mathlib.Core.Path.{_≡_, refl, sym, ap, _∙_}
-use mathlib.Core.List.{List}
-use mathlib.Core.Option.{none}
-use Prim.Native.Nat.{ℕ, _+_, _≤_}
-use native.Mathlib.Omega.{arith}
-use lib.Dec.{leb, leb→le}
-use lib.ListN.{length}
+use Rattle.model.proofs.Kit.{_≡_, refl, sym, ap, _∙_, List, none, ℕ, _+_, _≤_, leb, leb→le, length, arith}
 use Rattle.model.specs.declared.StepAnswer.the-variants.{Refused}
 use Rattle.model.specs.declared.Verdict.{Verdict}
 use Rattle.model.specs.declared.RunVerdict.{RunVerdict}
@@ -22,12 +16,15 @@ use Rattle.packing.specs.Packing.{packVerdict, packRun, Few}
 -- ---- verdicts
 
 -- the call's verdict, packed, beside the bytes that it left
-pub packs : (r : ℕ) (v : Verdict) (a : Refusal) (d e : List ℕ) → r ≡ packVerdict (verdict v) → (verdict v ≡ a) × (d ≡ e) → (r ≡ packVerdict a) × (d ≡ e)
+pub packs : (r : ℕ) (v : Verdict) (a : Refusal) (d e : List ℕ) → r ≡ packVerdict (verdict v) → (verdict v ≡ a) × (d ≡ e)
+    → (r ≡ packVerdict a) × (d ≡ e)
 packs r v a d e h answered = (h ∙ ap packVerdict (answered .0), answered .1)
 
 -- the figure as it was passed on
-pub proposes : (i : ℕ) (v z : Figure) (b : List ℕ) (r : ℕ) (w : Verdict) (d : List ℕ) → z ≡ v → r ≡ packVerdict (verdict w)
-    → (verdict w ≡ propose i z b .answer) × (d ≡ propose i z b .bytes) → (r ≡ packVerdict (propose i v b .answer)) × (d ≡ propose i v b .bytes)
+pub proposes : (i : ℕ) (v z : Figure) (b : List ℕ) (r : ℕ) (w : Verdict) (d : List ℕ) → z ≡ v
+    → r ≡ packVerdict (verdict w)
+    → (verdict w ≡ propose i z b .answer) × (d ≡ propose i z b .bytes)
+    → (r ≡ packVerdict (propose i v b .answer)) × (d ≡ propose i v b .bytes)
 proposes i v z b r w d e h answered = (
   h ∙ ap packVerdict (answered .0 ∙ ap (λ (x : Figure). propose i x b .answer) e),
   answered .1 ∙ ap (λ (x : Figure). propose i x b .bytes) e,
@@ -39,17 +36,25 @@ proposes i v z b r w d e h answered = (
 few : (is b : List ℕ) (s t : ℕ) → run is b .answer ≡ ran s t → s + t ≤ 65536
 unfolding run
 few is b s t =
-    call-case (λ (a : After RunAnswer). a .answer ≡ ran s t → s + t ≤ 65536) (unless (leb (length is) 65536) 6 (boardRefusal b none)) notRun b (ranFrom step 0 0 is b)
+    call-case (λ (a : After RunAnswer). a .answer ≡ ran s t → s + t ≤ 65536)
+    (unless (leb (length is) 65536) 6 (boardRefusal b none)) notRun b (ranFrom step 0 0 is b)
     counted (λ k e f. absurd (let z : _≡_ {A = ℕ} 0 1 = cc in omega arith))
   where
-    counted : unless (leb (length is) 65536) 6 (boardRefusal b none) ≡ none → ranFrom step 0 0 is b .answer ≡ ran s t → s + t ≤ 65536
+    counted : unless (leb (length is) 65536) 6 (boardRefusal b none) ≡ none → ranFrom step 0 0 is b .answer ≡ ran s t
+        → s + t ≤ 65536
     counted e f =
-        let g : ran (0 + taken (answers step b is)) (0 + passed (answers step b is)) ≡ ran s t = sym (ap (λ (a : After RunAnswer). a .answer) (ran-is step 0 0 is b)) ∙ f in
+        let g : ran (0 + taken (answers step b is)) (0 + passed (answers step b is)) ≡ ran s t =
+        sym (ap (λ (a : After RunAnswer). a .answer) (ran-is step 0 0 is b)) ∙ f in
         let p : 0 + taken (answers step b is) ≡ s = cc in
         let q : 0 + passed (answers step b is) ≡ t = cc in
-        omega (arith, ran-both step b is, leb→le (length is) 65536 (unless-none (leb (length is) 65536) 6 (boardRefusal b none) e .0))
+        omega (
+          arith,
+          ran-both step b is,
+          leb→le (length is) 65536 (unless-none (leb (length is) 65536) 6 (boardRefusal b none) e .0),
+        )
 
-module _ (is b : List ℕ) (w : RunVerdict) (d : List ℕ) (answered : (runTold w ≡ run is b .answer) × (d ≡ run is b .bytes)) where
+module _ (is b : List ℕ) (w : RunVerdict) (d : List ℕ)
+    (answered : (runTold w ≡ run is b .answer) × (d ≡ run is b .bytes)) where
   -- the counts fit their bits
   pub run-few : Few w
   run-few = go w refl

@@ -1,16 +1,7 @@
 -- The fields of a register and of a record, read where they stand in a longer list.
 -- Relies on Signs and the laws on parts of the crate model; the proofs of register_at and record_at rely on it.
-use mathlib.Core.Path.{_≡_, sym, ap, _∙_}
-use mathlib.Core.List.{List}
-use Prim.Native.Nat.{ℕ, _+_, _≤_, _<_}
-use native.Mathlib.Nat.{add-zero}
-use native.Mathlib.Omega.{arith}
-use lib.Dec.{lit<}
-use lib.IntN.{ℤ}
-use lib.ListN.{length}
+use Rattle.model.proofs.Kit.{_≡_, sym, ap, _∙_, List, ℕ, _+_, _≤_, _<_, lit<, ℤ, length, w32, toZ, ofZ, add-zero, arith}
 use lib.Seq.{ext-getD}
-use mir.Syntax.{w32}
-use mir.Val.{toZ, ofZ}
 use Rattle.model.specs.Bytes.{byte, part}
 use Rattle.model.specs.Figure.{figure}
 use Rattle.model.specs.Layout.{readRegister, readRecord}
@@ -18,7 +9,8 @@ use Rattle.model.proofs.Basics.Splices.{length-part, byte-part}
 use Rattle.figures.proofs.Laws.Signs.{returned}
 
 -- a part of a part
-pub part-part : (at len i k : ℕ) (b : List ℕ) → at + len ≤ length b → i + k ≤ len → part (at + i) k b ≡ part i k (part at len b)
+pub part-part : (at len i k : ℕ) (b : List ℕ) → at + len ≤ length b → i + k ≤ len
+    → part (at + i) k b ≡ part i k (part at len b)
 part-part at len i k b h l =
     ext-getD 0 (part (at + i) k b) (part i k (part at len b)) (outer ∙ sym inner)
     (λ (j : ℕ) (q : j < length (part (at + i) k b)).
@@ -52,7 +44,8 @@ register-read b at v h e = λ i. record {
   figure = figure-in at 8 b h 4 v (omega arith) e i;
 }
 
-pub record-read : (b : List ℕ) (at : ℕ) (v x y : ℤ) → at + 24 ≤ length b → v ≡ figure (part (at + 8) 4 b) → x ≡ figure (part (at + 12) 4 b)
+pub record-read : (b : List ℕ) (at : ℕ) (v x y : ℤ) → at + 24 ≤ length b → v ≡ figure (part (at + 8) 4 b)
+    → x ≡ figure (part (at + 12) 4 b)
     → y ≡ figure (part (at + 16) 4 b)
     → record {
       phase = byte b at;

@@ -1,11 +1,8 @@
--- Bytes written: eight stores are a cell, a lent part that comes back is a splice, and three parts side by side are a record.
--- Relies on the layout and the laws on splices of the crate model; the proofs of cells, registers and records rely on it.
-use mathlib.Core.Path.{_≡_, refl, sym, ap, _∙_}
-use mathlib.Core.List.{List, [], _∷_, _++_, append-assoc, append-nil}
-use Prim.Native.Nat.{ℕ, _+_, _-_}
-use native.Mathlib.Omega.{arith}
-use lib.ListN.{length, take, drop}
-use lib.Seq.{sets, sets-eq, drop-drop, drop-length}
+-- Bytes written: eight stores are a cell, a lent part that comes back is a splice, three parts in a row are a record.
+-- Relies on the layout and the model's laws on splices; the proofs of cells, registers and records rely on it.
+use Rattle.model.proofs.Kit.{_≡_, refl, sym, ap, _∙_, List, [], _∷_, _++_, append-assoc, append-nil, ℕ, _+_, _-_}
+use Rattle.model.proofs.Kit.{length, take, drop, drop-drop, arith}
+use lib.Seq.{sets, sets-eq, drop-length}
 use borrow.Rule.Slice.PartMut.{putMid}
 use Rattle.model.specs.declared.Record.{Record}
 use Rattle.model.specs.declared.Register.{Register}
@@ -22,7 +19,8 @@ eight v = byte v 0 ∷ byte v 1 ∷ byte v 2 ∷ byte v 3 ∷ byte v 4 ∷ byte 
 pub stored : (l v : List ℕ) → length l ≡ 8 → length v ≡ 8 → sets l 0 (eight v) ≡ v
 unfolding listed
 stored l v h k =
-    sets-eq (eight v) l 0 (omega arith) ∙ ap (λ (r : List ℕ). eight v ++ r) (ap (λ (n : ℕ). drop n l) (sym h) ∙ drop-length l)
+    sets-eq (eight v) l 0 (omega arith)
+    ∙ ap (λ (r : List ℕ). eight v ++ r) (ap (λ (n : ℕ). drop n l) (sym h) ∙ drop-length l)
     ∙ append-nil (eight v) ∙ sym (part-listed 0 8 v (omega arith)) ∙ part-whole v 8 k
 
 -- a part that was lent and holds w when it is back
@@ -39,7 +37,8 @@ lent-back at len b v w k e =
 pub register-laid : (r : Register) (f l : List ℕ) → f ≡ figureBytes (r .figure)
     → l ≡ r .mark ∷ r .island ∷ 0 ∷ 0 ∷ byte f 0 ∷ byte f 1 ∷ byte f 2 ∷ byte f 3 ∷ [] → l ≡ layRegister r
 unfolding layRegister figureBytes digits
-register-laid r f l e q = q ∙ ap (λ (g : List ℕ). r .mark ∷ r .island ∷ 0 ∷ 0 ∷ byte g 0 ∷ byte g 1 ∷ byte g 2 ∷ byte g 3 ∷ []) e
+register-laid r f l e q =
+    q ∙ ap (λ (g : List ℕ). r .mark ∷ r .island ∷ 0 ∷ 0 ∷ byte g 0 ∷ byte g 1 ∷ byte g 2 ∷ byte g 3 ∷ []) e
 
 pub length-register : (r : Register) → length (layRegister r) ≡ 8
 unfolding layRegister figureBytes digits
@@ -49,20 +48,19 @@ length-register r = refl
 abbrev pub pair : List ℕ → List ℕ → List ℕ
 pair v x = byte v 0 ∷ byte v 1 ∷ byte v 2 ∷ byte v 3 ∷ byte x 0 ∷ byte x 1 ∷ byte x 2 ∷ byte x 3 ∷ []
 
+-- and of one figure before four zeros
+abbrev pub padded : List ℕ → List ℕ
+padded y = byte y 0 ∷ byte y 1 ∷ byte y 2 ∷ byte y 3 ∷ 0 ∷ 0 ∷ 0 ∷ 0 ∷ []
+
 pub record-laid : (r : Record) (at : ℕ) (b b1 b2 b3 v x y : List ℕ)
     → v ≡ figureBytes (r .proposal) → x ≡ figureBytes (r .carried) → y ≡ figureBytes (r .best)
     → b1 ≡ splice at (r .phase ∷ r .position ∷ r .island ∷ r .seen ∷ r .highest ∷ r .flag ∷ 0 ∷ 0 ∷ []) b
-    → b2 ≡ splice (at + 8) (pair v x) b1
-    → b3 ≡ splice (at + 16) (byte y 0 ∷ byte y 1 ∷ byte y 2 ∷ byte y 3 ∷ 0 ∷ 0 ∷ 0 ∷ 0 ∷ []) b2
-    → b3 ≡ splice at (layRecord r) b
+    → b2 ≡ splice (at + 8) (pair v x) b1 → b3 ≡ splice (at + 16) (padded y) b2 → b3 ≡ splice at (layRecord r) b
 unfolding layRecord figureBytes digits
 record-laid r at b b1 b2 b3 v x y ev ex ey e1 e2 e3 =
-    e3 ∙ ap (splice (at + 16) last) (e2 ∙ ap (splice (at + 8) (pair v x)) e1 ∙ splice-join at head (pair v x) b)
-    ∙ splice-join at (head ++ pair v x) last b
-    ∙ (λ i. splice at (head ++ pair (ev i) (ex i) ++ (byte (ey i) 0 ∷ byte (ey i) 1 ∷ byte (ey i) 2 ∷ byte (ey i) 3 ∷ 0 ∷ 0 ∷ 0 ∷ 0 ∷ [])) b)
+    e3 ∙ ap (splice (at + 16) (padded y)) (e2 ∙ ap (splice (at + 8) (pair v x)) e1 ∙ splice-join at head (pair v x) b)
+    ∙ splice-join at (head ++ pair v x) (padded y) b
+    ∙ (λ i. splice at (head ++ pair (ev i) (ex i) ++ padded (ey i)) b)
   where
     head : List ℕ
     head = r .phase ∷ r .position ∷ r .island ∷ r .seen ∷ r .highest ∷ r .flag ∷ 0 ∷ 0 ∷ []
-
-    last : List ℕ
-    last = byte y 0 ∷ byte y 1 ∷ byte y 2 ∷ byte y 3 ∷ 0 ∷ 0 ∷ 0 ∷ 0 ∷ []

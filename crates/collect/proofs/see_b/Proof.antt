@@ -1,5 +1,5 @@
 -- `see_b` meets its contract: each return is a law of OneRead or ReadB.
-use borrow.Author.Needs.{needs}
+use Rattle.model.proofs.Kit.{needs}
 use Rattle.model.proofs.Basics.Numbers.{landed}
 use Rattle.collect.proofs.OneRead.{see-empty}
 use Rattle.collect.proofs.ReadB.{read-adopt, read-commit}
@@ -7,4 +7,6 @@ use Rattle.collect.proofs.see_b.Statement.{statement}
 use Rattle.collect.proofs.see_b.Tie as tie
 
 pub see-b-spec : {M : Type 1} → statement M
-see-b-spec = tie.close (tie.spec (λ c. search see-empty) (λ c κs. search needs) (λ c. search (landed, read-adopt)) (λ c κs. search needs) (λ c. search (landed, read-commit)))
+see-b-spec =
+    tie.close (tie.spec (λ c. search see-empty) (λ c κs. search needs) (λ c. search (landed, read-adopt))
+    (λ c κs. search needs) (λ c. search (landed, read-commit)))

@@ -1,5 +1,5 @@
 -- `figure_at`: the number of the four bytes, read as signed.
-use borrow.Author.Needs.{needs}
+use Rattle.model.proofs.Kit.{needs}
 use Rattle.figures.proofs.Laws.Signs.{figure-read}
 use Rattle.figures.proofs.figure_at.Statement.{statement}
 use Rattle.figures.proofs.figure_at.Tie as tie

@@ -1,18 +1,11 @@
 -- A given word in front of some bytes, and at a place of a line.
--- Relies on Places, Answers and the model's `behind`; the proof of word::word_at, and the laws of items above, rely on it.
-use mathlib.Core.Path.{_≡_, refl, sym, ap, _∙_}
-use mathlib.Core.Bool.{Bool, true, false, cond}
-use mathlib.Core.List.{List, [], _∷_}
-use mathlib.Core.Option.{none, some}
-use Prim.Native.Nat.{ℕ, _+_, _-_, _≤_, _<_}
-use native.Mathlib.Omega.{arith}
-use lib.Dec.{eqb}
-use lib.ListN.{length, take, drop}
-use lib.Seq.{drop-drop}
-use borrow.Author.Tests.{eq-eqb, eqb-true}
+-- Relies on Places, Answers and the model's `behind`; the proof of word::word_at, and the laws of items above, rely on
+-- it.
+use Rattle.model.proofs.Kit.{_≡_, refl, sym, ap, _∙_, Bool, true, false, cond, List, [], _∷_, none, some, ℕ, _+_, _-_}
+use Rattle.model.proofs.Kit.{_≤_, _<_, eqb-true, eq-eqb, eqb, length, take, drop, drop-drop, arith}
 use Rattle.model.specs.Forms.{behind}
 use Rattle.model.proofs.Basics.Tests.{clash}
-use Rattle.lexer.specs.Answered.{orRefused}
+use Rattle.model.specs.Forms.{orFour}
 use Rattle.lexer.specs.declared.word.FoundWord.{FoundWord}
 use Rattle.lexer.specs.declared.word.FoundWord.the-variants.{At, Refused}
 use Rattle.lexer.specs.Words.{wordAt, WordIs}
@@ -65,8 +58,8 @@ text-found (a ∷ w) (b ∷ l) rest e =
 
 module _ (line : List ℕ) (at : ℕ) (w : List ℕ) where
   no-word : behind w (drop at line) ≡ none → WordIs line at w (Refused 4)
-  unfolding wordAt orRefused
-  no-word e = record { reads = ap orRefused (sym e); inside = tt }
+  unfolding wordAt orFour
+  no-word e = record { reads = ap orFour (sym e); inside = tt }
 
   pub word-cut : 0 < length w → length line < at + length w → WordIs line at w (Refused 4)
   word-cut p h = no-word (text-cut w (drop at line) (omega (arith, left-over line at)))
@@ -75,15 +68,18 @@ module _ (line : List ℕ) (at : ℕ) (w : List ℕ) where
   module _ (part : List ℕ) (bytes : part ≡ take (at + length w - at) (drop at line)) (t : Bool)
       (same : (t ≡ true → part ≡ w) × (part ≡ w → t ≡ true)) where
     as-long : part ≡ take (length w) (drop at line)
-    as-long = let both : at + length w - at ≡ length w = omega arith in bytes ∙ ap (λ (k : ℕ). take k (drop at line)) both
+    as-long =
+        let both : at + length w - at ≡ length w = omega arith in bytes ∙ ap (λ (k : ℕ). take k (drop at line)) both
 
     pub word-other : t ≡ false → WordIs line at w (Refused 4)
     word-other e = no-word (text-not-there w (drop at line) (λ q. clash (sym (same .1 (as-long ∙ q)) ∙ e)))
 
     pub word-there : t ≡ true → WordIs line at w (At (at + length w))
-    unfolding wordAt orRefused
+    unfolding wordAt orFour
     word-there e = record {
-      reads = sym (ap orRefused (text-there w (drop at line) (sym as-long ∙ same .0 e) ∙ ap some (drop-drop (length w) at line)));
+      reads =
+          sym (ap orFour (text-there w (drop at line) (sym as-long ∙ same .0 e)
+          ∙ ap some (drop-drop (length w) at line)));
       inside = omega arith;
     }
 

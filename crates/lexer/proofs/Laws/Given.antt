@@ -1,11 +1,6 @@
 -- What a reader gave, taken apart: the readers that it was put together of gave something too.
 -- Relies on the model's `found` and `andThen`; the laws of a known number here, and those of items above, rely on it.
-use mathlib.Core.Path.{_≡_, refl, ap}
-use mathlib.Core.Bool.{Bool, true, false, cond}
-use mathlib.Core.List.{List}
-use mathlib.Core.Option.{Option, none, some}
-use Prim.Native.Nat.{ℕ}
-use native.Mathlib.Omega.{arith}
+use Rattle.model.proofs.Kit.{_≡_, refl, ap, Bool, true, false, cond, List, none, some, Option, ℕ, arith}
 use Rattle.model.specs.Forms.{Read, found, andThen}
 
 pub never : {A : Type 0} {B : Type 0} (a : A) → none ≡ some a → B
@@ -29,7 +24,8 @@ pub record Through {A B : Type 0} (o : Option (Read A)) (go : A → List ℕ →
   pub read : o ≡ found value rest
   pub goes : go value rest ≡ some b
 
-pub through : {A B : Type 0} (o : Option (Read A)) (go : A → List ℕ → Option B) (b : B) → andThen o go ≡ some b → Through o go b
+pub through : {A B : Type 0} (o : Option (Read A)) (go : A → List ℕ → Option B) (b : B) → andThen o go ≡ some b
+    → Through o go b
 unfolding andThen found
 through none go b e = never b e
 through (some r) go b e = record { value = r .value; rest = r .rest; read = refl; goes = e }

@@ -1,32 +1,27 @@
 -- A number that is known to stand at a place: its first byte, and that its digits stay in their range without a test.
--- Relies on Given, Numbers and Spaced; the proof of src/known.rt and the walk over items above rely on it.
-use mathlib.Core.Path.{_≡_, refl, sym, ap, _∙_, subst}
-use mathlib.Core.Bool.{true, cond, _&&_}
-use mathlib.Core.List.{List}
-use mathlib.Core.Option.{Option, none, some}
-use Prim.Native.Nat.{ℕ, _+_, _*_, _-_, _≤_, _<_}
-use native.Mathlib.Nat.{lt-of-not-le}
-use native.Mathlib.Omega.{arith}
-use lib.Dec.{leb}
-use lib.ListN.{length, getD, drop, drop-of-length-le}
-use borrow.Author.Tests.{ne-eqb}
-use Rattle.model.specs.Forms.{Read, found, andThen, digit, digitsFrom, natural, number}
+-- Relies on Given, Numbers and Spaced; the proof of src/known.rt and the run of items above rely on it.
+use Rattle.model.proofs.Kit.{_≡_, refl, sym, ap, subst, _∙_, true, cond, _&&_, List, none, some, Option, ℕ, _+_, _-_}
+use Rattle.model.proofs.Kit.{_≤_, _<_, _*_, ne-eqb, leb, length, drop, drop-of-length-le, getD, lt-of-not-le, arith}
+use Rattle.model.specs.Forms.{Read, found, andThen, digit, digitsFrom, natural, numberIn}
 use Rattle.model.proofs.Basics.Tests.{true-T, T-true}
 use Rattle.model.proofs.Calls.Refusals.{within, within-T}
 use Rattle.model.proofs.Sheet.NumbersBack.{grows}
+use Rattle.lexer.specs.declared.number.FoundNumber.{FoundNumber}
 use Rattle.lexer.specs.declared.number.FoundNumber.the-variants.{At}
 use Rattle.lexer.specs.declared.known.KnownNumber.{KnownNumber}
+use Rattle.lexer.specs.Placed.{DigitsIs, NumberIs}
 use Rattle.lexer.specs.Known.{NumberStands, KnownIs}
 use Rattle.lexer.proofs.Laws.Places.{here}
 use Rattle.lexer.proofs.Laws.Given.{never, passed}
-use Rattle.lexer.proofs.Laws.Numbers.{Along, is-digit}
+use Rattle.lexer.proofs.Laws.Numbers.{Along, is-digit, from-digits}
 use Rattle.lexer.proofs.Laws.Spaced.{number-found}
 
 -- ---- a number that is found is in its range, and is found in every wider one
 
 module _ (l : List ℕ) (r : Read ℕ) where
-  pub number-given : (low high : ℕ) → number low high l ≡ some r → (natural l ≡ some r) × (low ≤ r .value) × (r .value ≤ high)
-  unfolding number andThen found
+  pub number-given : (low high : ℕ) → numberIn low high l ≡ some r
+      → (natural l ≡ some r) × (low ≤ r .value) × (r .value ≤ high)
+  unfolding numberIn andThen found
   number-given low high e = by (natural l) e
     where
       by : (o : Option (Read ℕ)) → andThen o (λ v rest. cond (leb low v && leb v high) (found v rest) none) ≡ some r
@@ -35,25 +30,30 @@ module _ (l : List ℕ) (r : Read ℕ) where
       by (some s) q =
           let p = passed (leb low (s .value) && leb (s .value) high) (some s) r q in
           let same : s ≡ r = let d = p .1 in cc in
-          let range = within low high (s .value) (true-T _ (p .0)) in
-          (p .1, subst (λ (x : Read ℕ). low ≤ x .value) same (range .0), subst (λ (x : Read ℕ). x .value ≤ high) same (range .1))
+          let range = within low high (s .value) (true-T _ (p .0)) in (
+            p .1,
+            subst (λ (x : Read ℕ). low ≤ x .value) same (range .0),
+            subst (λ (x : Read ℕ). x .value ≤ high) same (range .1),
+          )
 
-  pub number-wider : (low high : ℕ) → high ≤ 99999 → number low high l ≡ some r → number 0 99999 l ≡ some r
-  unfolding number andThen found
+  pub number-wider : (low high : ℕ) → high ≤ 99999 → numberIn low high l ≡ some r → numberIn 0 99999 l ≡ some r
+  unfolding numberIn andThen found
   number-wider low high h e =
       let g = number-given low high e in
-      let range : leb 0 (r .value) && leb (r .value) 99999 ≡ true = T-true _ (within-T 0 99999 (r .value) (omega arith) (omega (arith, g .2))) in
+      let range : leb 0 (r .value) && leb (r .value) 99999 ≡ true =
+      T-true _ (within-T 0 99999 (r .value) (omega arith) (omega (arith, g .2))) in
       rw (g .0, range)
 
 -- ---- a number that was found before, in any range up to 99,999, is found again
 
-module _ (line : List ℕ) (at low high : ℕ) (small : high ≤ 99999) (r : Read ℕ) (read : number low high (drop at line) ≡ some r) where
+module _ (line : List ℕ) (at low high : ℕ) (small : high ≤ 99999) (r : Read ℕ)
+    (read : numberIn low high (drop at line) ≡ some r) where
   pub stands-there : NumberStands line at
   unfolding NumberStands
   stands-there = (r, number-wider (drop at line) r low high small read)
 
   module _ (n : KnownNumber) (is : KnownIs line at n) where
-    pub known-found : number low high (drop at line) ≡ found (n .value) (drop (n .next) line)
+    pub known-found : numberIn low high (drop at line) ≡ found (n .value) (drop (n .next) line)
     known-found =
         read ∙ sym (number-wider (drop at line) r low high small read)
         ∙ number-found line (At (n .value) (n .next)) _ (is .reads) (n .value) (n .next) refl
@@ -61,22 +61,26 @@ module _ (line : List ℕ) (at low high : ℕ) (small : high ≤ 99999) (r : Rea
     pub known-range : (low ≤ n .value) × (n .value ≤ high)
     unfolding found
     known-range =
-        let g = number-given (drop at line) (record { value = n .value; rest = drop (n .next) line }) low high known-found in
+        let g =
+        number-given (drop at line) (record { value = n .value; rest = drop (n .next) line }) low high known-found in
         (g .1, g .2)
 
 -- ---- the digits of a number that stands
 
 module _ (line : List ℕ) (at : ℕ) (stands : NumberStands line at) where
   pub known-inside : at < length line
-  unfolding NumberStands number natural andThen
-  known-inside = lt-of-not-le (λ (h : length line ≤ at). never (stands .0) (rw (drop-of-length-le line h) at (stands .1)))
+  unfolding NumberStands numberIn natural andThen
+  known-inside =
+      lt-of-not-le (λ (h : length line ≤ at). never (stands .0) (rw (drop-of-length-le line h) at (stands .1)))
 
   module _ (no-zero : getD line at 0 ≡ 48 → ⊥) where
-    known-digits : (digit (getD line at 0) ≡ true) × (digitsFrom (getD line at 0 - 48) (drop (at + 1) line) .value ≤ 99999)
+    known-digits : (digit (getD line at 0) ≡ true)
+        × (digitsFrom (getD line at 0 - 48) (drop (at + 1) line) .value ≤ 99999)
     unfolding NumberStands natural
     known-digits =
         let g = number-given (drop at line) (stands .0) 0 99999 (stands .1) in
-        let p = passed (digit (getD line at 0)) (some (digitsFrom (getD line at 0 - 48) (drop (at + 1) line))) (stands .0)
+        let p =
+        passed (digit (getD line at 0)) (some (digitsFrom (getD line at 0 - 48) (drop (at + 1) line))) (stands .0)
         (rw (here line at known-inside, ne-eqb (getD line at 0) 48 no-zero) at (g .0)) in
         let same : digitsFrom (getD line at 0 - 48) (drop (at + 1) line) ≡ stands .0 = let d = p .1 in cc in
         (p .0, rw same (g .2))
@@ -87,11 +91,18 @@ module _ (line : List ℕ) (at : ℕ) (stands : NumberStands line at) where
         let range = within 48 57 (getD line at 0) (true-T _ (known-digits .0)) in
         (lt-of-not-le (λ (h : getD line at 0 ≤ 48). no-zero (omega (arith, range .0))), range .1)
 
+    -- its digits, read to where they end
+    pub known-read : (r : FoundNumber) → DigitsIs line (at + 1) (getD line at 0 - 48) 99999 r
+        → NumberIs line at 0 99999 r
+    known-read r h =
+        from-digits line at 0 99999 known-inside (omega arith) (omega (arith, first-digit .0)) (first-digit .1) r h
+
     pub first-small : getD line at 0 - 48 ≤ 99999
     first-small = omega (arith, first-digit .1)
 
     pub stays-small : (next value : ℕ) → Along line (at + 1) (getD line at 0 - 48) 99999 next value
-        → next < length line → 48 ≤ getD line next 0 → getD line next 0 ≤ 57 → 10 * value + (getD line next 0 - 48) ≤ 99999
+        → next < length line → 48 ≤ getD line next 0 → getD line next 0 ≤ 57
+        → 10 * value + (getD line next 0 - 48) ≤ 99999
     unfolding digitsFrom
     stays-small next value along h low up =
         let more : ℕ = 10 * value + (getD line next 0 - 48) in

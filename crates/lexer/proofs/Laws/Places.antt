@@ -1,12 +1,8 @@
 -- The byte at a place of a line, as the code reads it and as the model's reader finds it in front of what follows.
 -- Relies on the kit's lists; the laws of numbers here, and those of items and forms above, rely on it.
-use mathlib.Core.Path.{_≡_, sym, ap, _∙_}
-use mathlib.Core.List.{List, _∷_}
-use Prim.Native.Nat.{ℕ, _+_, _-_, _<_}
-use native.Mathlib.Numerals.{add-one}
-use native.Mathlib.Omega.{arith}
-use lib.ListN.{length, getD, drop, length-drop}
-use lib.Seq.{drop-cons, drop-drop, getD-drop}
+use Rattle.model.proofs.Kit.{_≡_, sym, ap, _∙_, List, _∷_, ℕ, _+_, _-_, _<_, length, drop, length-drop, getD, drop-drop}
+use Rattle.model.proofs.Kit.{add-one, arith}
+use lib.Seq.{drop-cons, getD-drop}
 use Rattle.model.specs.Bytes.{byte}
 
 module _ (line : List ℕ) (at : ℕ) where

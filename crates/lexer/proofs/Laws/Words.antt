@@ -1,24 +1,19 @@
 -- Words: where one ends, which form it names, and that the test of two texts for equality is the model's.
 -- Relies on the model's forms; the proofs of src/word.rt rely on it.
-use mathlib.Core.Path.{_≡_, refl, sym, ap, _∙_}
-use mathlib.Core.Bool.{Bool, true, false, cond, _&&_, _||_}
-use mathlib.Core.List.{List, [], _∷_, _++_, append-assoc, append-nil}
-use mathlib.Core.Option.{Option, none, some}
-use Prim.Native.Nat.{ℕ, suc, _+_, _-_, _≤_, _<_}
-use native.Mathlib.Omega.{arith}
-use borrow.Author.Tests.{eq-eqb, ne-eqb}
-use lib.Dec.{eqb}
-use lib.ListN.{length, take, drop, getD, length-drop, drop-of-length-le}
+use Rattle.model.proofs.Kit.{_≡_, refl, sym, ap, _∙_, Bool, true, false, cond, _&&_, _||_, List, [], _∷_, _++_}
+use Rattle.model.proofs.Kit.{append-assoc, append-nil, ℕ, suc, _+_, _-_, _≤_, _<_, eq-eqb, ne-eqb, eqb, length, take}
+use Rattle.model.proofs.Kit.{drop, length-drop, drop-of-length-le, getD, arith}
 use lib.Seq.{take-suc, drop-cons, getD-drop}
 use Rattle.model.proofs.Basics.Tests.{true-T}
 use Rattle.model.proofs.Sheet.WrittenBack.{same-text}
-use Rattle.model.specs.Forms.{Word, boardWord, proposeWord, stepsWord, showWord, same, wordOf, upToStop, firstWord, formWord}
+use Rattle.model.specs.Forms.{same, boardRow, proposeRow, stepsRow, showRow, wordRows, rowIn, upToStop, firstWord}
+use Rattle.model.specs.Forms.{formWord}
 use Rattle.model.specs.Show.{text}
 use Rattle.lexer.specs.declared.word.FormWord.{FormWord}
 use Rattle.lexer.specs.declared.word.FormWord.the-variants.{Board, Propose, Steps, Show}
 use Rattle.lexer.specs.declared.word.Named.{Named}
 use Rattle.lexer.specs.declared.word.Named.the-variants.{Form, Nothing}
-use Rattle.lexer.specs.Words.{WordEnd, namedAs, named}
+use Rattle.lexer.specs.Words.{WordEnd, namedRow}
 
 -- ---- the test of two texts
 
@@ -96,21 +91,24 @@ goes-on line end r h no-space no-open no-close = record {
     none-of : {b : ℕ} → (b ≡ 32 → ⊥) → (b ≡ 40 → ⊥) → (b ≡ 41 → ⊥) → stop b ≡ false
     none-of {b} s o k = simp (ne-eqb b 32 s, ne-eqb b 40 o, ne-eqb b 41 k)
 
-stops-there : (line : List ℕ) (end : ℕ) → Reached line end → upToStop (drop (end - 1) (drop 1 line)) ≡ [] → WordEnd line end
+stops-there : (line : List ℕ) (end : ℕ) → Reached line end → upToStop (drop (end - 1) (drop 1 line)) ≡ []
+    → WordEnd line end
 stops-there line end r e = record {
   behind = r .behind;
   inside = r .inside;
   word = sym (append-nil _) ∙ sym (ap (λ (k : List ℕ). take (end - 1) (drop 1 line) ++ k) e) ∙ r .word;
 }
 
-stopped : (line : List ℕ) (end : ℕ) → Reached line end → end < length line → stop (getD line end 0) ≡ true → WordEnd line end
+stopped : (line : List ℕ) (end : ℕ) → Reached line end → end < length line → stop (getD line end 0) ≡ true
+    → WordEnd line end
 stopped line end r h s =
     stops-there line end r
     (next-stop (drop 1 line) (end - 1) (left-behind line end (r .behind) h)
     ∙ ap (λ (t : Bool). cond t [] (getD (drop 1 line) (end - 1) 0 ∷ upToStop (drop (suc (end - 1)) (drop 1 line))))
     (ap stop (behind-first line end (r .behind)) ∙ s))
 
-pub at-space : (line : List ℕ) (end : ℕ) → Reached line end → end < length line → getD line end 0 ≡ 32 → WordEnd line end
+pub at-space : (line : List ℕ) (end : ℕ) → Reached line end → end < length line → getD line end 0 ≡ 32
+    → WordEnd line end
 unfolding stop
 at-space line end r h e = stopped line end r h (ap stop e)
 
@@ -118,7 +116,8 @@ pub at-open : (line : List ℕ) (end : ℕ) → Reached line end → end < lengt
 unfolding stop
 at-open line end r h e = stopped line end r h (ap stop e)
 
-pub at-close : (line : List ℕ) (end : ℕ) → Reached line end → end < length line → getD line end 0 ≡ 41 → WordEnd line end
+pub at-close : (line : List ℕ) (end : ℕ) → Reached line end → end < length line → getD line end 0 ≡ 41
+    → WordEnd line end
 unfolding stop
 at-close line end r h e = stopped line end r h (ap stop e)
 
@@ -149,66 +148,40 @@ behind-bracket (b ∷ l) end h w = w .word ∙ sym (ap (λ (t : Bool). cond t (u
 -- ---- the form that a word names
 
 module _ (w : List ℕ) where
-  pub names-board : same w (text "board") ≡ true → Form Board ≡ named w
-  unfolding named namedAs wordOf
+  pub names-board : same w (text "board") ≡ true → namedRow (Form Board) ≡ rowIn wordRows w
+  unfolding namedRow rowIn wordRows boardRow
   names-board b = simp b
 
-  pub names-propose : same w (text "board") ≡ false → same w (text "propose") ≡ true → Form Propose ≡ named w
-  unfolding named namedAs wordOf
+  pub names-propose : same w (text "board") ≡ false → same w (text "propose") ≡ true
+      → namedRow (Form Propose) ≡ rowIn wordRows w
+  unfolding namedRow rowIn wordRows boardRow proposeRow
   names-propose b p = simp (b, p)
 
   pub names-steps : same w (text "board") ≡ false → same w (text "propose") ≡ false → same w (text "steps") ≡ true
-      → Form Steps ≡ named w
-  unfolding named namedAs wordOf
+      → namedRow (Form Steps) ≡ rowIn wordRows w
+  unfolding namedRow rowIn wordRows boardRow proposeRow stepsRow
   names-steps b p s = simp (b, p, s)
 
   pub names-show : same w (text "board") ≡ false → same w (text "propose") ≡ false → same w (text "steps") ≡ false
-      → same w (text "show") ≡ true → Form Show ≡ named w
-  unfolding named namedAs wordOf
+      → same w (text "show") ≡ true → namedRow (Form Show) ≡ rowIn wordRows w
+  unfolding namedRow rowIn wordRows boardRow proposeRow stepsRow showRow
   names-show b p s h = simp (b, p, s, h)
 
   pub names-nothing : same w (text "board") ≡ false → same w (text "propose") ≡ false → same w (text "steps") ≡ false
-      → same w (text "show") ≡ false → Nothing ≡ named w
-  unfolding named namedAs wordOf
+      → same w (text "show") ≡ false → namedRow Nothing ≡ rowIn wordRows w
+  unfolding namedRow rowIn wordRows boardRow proposeRow stepsRow showRow
   names-nothing b p s h = simp (b, p, s, h)
 
 -- ---- the word that names the line's form
 
--- the model's word of each of the code's
-abbrev pub modelWord : FormWord → Word
-modelWord Board = boardWord
-modelWord Propose = proposeWord
-modelWord Steps = stepsWord
-modelWord Show = showWord
+module _ (line w : List ℕ) (is : w ≡ firstWord line) (r : Named) (name : namedRow r ≡ rowIn wordRows w) where
+  pub named-row : rowIn wordRows (firstWord line) ≡ namedRow r
+  named-row = sym (name ∙ ap (rowIn wordRows) is)
 
--- the name read back: no two words have the same
-unfoldable pub word-back : Named → Option Word
-word-back (Form w) = some (modelWord w)
-word-back Nothing = none
+  pub no-word : r ≡ Nothing → [] ≡ formWord line
+  unfolding formWord namedRow
+  no-word e = rw (named-row ∙ ap namedRow e, formWord)
 
-pub back : (o : Option Word) → word-back (namedAs o) ≡ o
-unfolding word-back namedAs
-back none = refl
-back (some boardWord) = refl
-back (some proposeWord) = refl
-back (some stepsWord) = refl
-back (some showWord) = refl
-
-pub word-is : (o : Option Word) (line w : List ℕ) → w ≡ firstWord line → namedAs o ≡ named w → wordOf (firstWord line) ≡ o
-unfolding named
-word-is o line w p e =
-    sym (back (wordOf (firstWord line))) ∙ ap word-back (sym (e ∙ ap (λ (k : List ℕ). namedAs (wordOf k)) p)) ∙ back o
-
-kept : (o : Option Word) (f : FormWord) (w : List ℕ) → Form f ≡ namedAs o → w ≡ elim o [ none ↦ [] | some v ↦ w ]
-unfolding namedAs
-kept none f w e = let z : _≡_ {A = ℕ} 0 1 = cc in absurd (omega arith)
-kept (some v) f w e = refl
-
-pub no-word : (line w : List ℕ) → w ≡ firstWord line → Nothing ≡ named w → [] ≡ formWord line
-unfolding formWord namedAs
-no-word line w p e = sym (ap (λ (o : Option Word). elim o [ none ↦ [] | some v ↦ firstWord line ]) (word-is none line w p e))
-
-pub its-word : (line w : List ℕ) (f : FormWord) → w ≡ firstWord line → Form f ≡ named w → w ≡ formWord line
-unfolding formWord named
-its-word line w f p e =
-    p ∙ kept (wordOf (firstWord line)) f (firstWord line) (e ∙ ap (λ (k : List ℕ). namedAs (wordOf k)) p)
+  pub its-word : (f : FormWord) → r ≡ Form f → w ≡ formWord line
+  unfolding formWord namedRow
+  its-word f e = is ∙ rw (named-row ∙ ap namedRow e, formWord)

@@ -1,15 +1,14 @@
 -- The invariant of a state: it holds at the start, and a proposal and a step keep it. Relies on the four kinds of
 -- moves; the theorems on decisions and every run rely on it.
-use mathlib.Core.Path.{_≡_, refl, sym, ap, subst}
-use mathlib.Core.Bool.{true}
-use mathlib.Core.Option.{Option, none, some}
-use Prim.Native.Nat.{ℕ, _+_, _≤_, _<_}
-use lib.Dec.{ltb}
-use borrow.Author.Tests.{ltb-false}
-use Rattle.model.specs.Listing.{Order, Register, Turn, Seen, nothing, Stage, writing, reading, has-decided, is-spent, Station, idle, active, Move, Array, inM, array, entry, placeArray, placeColumn, proposed, stay, ended, see, move}
+use Rattle.model.proofs.Kit.{_≡_, refl, sym, ap, subst, true, none, some, Option, ℕ, _+_, _≤_, _<_}
+use Rattle.model.specs.Listing.{Order, Register, Turn, Seen, nothing, Stage, writing, reading, has-decided}
+use Rattle.model.specs.Listing.{is-spent}
+use Rattle.model.specs.Listing.{Station, idle, active, Move, Array, inM, array, entry, placeArray, placeColumn}
+use Rattle.model.specs.Listing.{proposed}
+use Rattle.model.specs.Listing.{stay, ended, see, move}
+use Rattle.model.proofs.Listing.Cases.{read-case}
 use Rattle.model.proofs.Listing.Going.{Going}
 use Rattle.model.proofs.Listing.Written.{ended-writes}
-use Rattle.model.proofs.Basics.Tests.{cond-case}
 use Rattle.model.proofs.Agreement.State.{State, put, put-same, putWritten, initial, proposing, moveOf, moving}
 use Rattle.model.proofs.Agreement.Cells.{Cell, standing, cells, written, rewritten, cells-rewritten, put-put}
 use Rattle.model.proofs.Agreement.Invariant.{Kept}
@@ -94,12 +93,15 @@ module _ {F : Type 0} where
         let r = st .register (array t c) p in
         let last = ended K t c x (see o t a r) in
         record {
-          clauses = cond-case (λ (m : Move F). Kept n (cells (rewritten i (active v (m .stage)) (array t c) (m .written) st))) (ltb (p + 1) n) _ _
-              (λ e. unwritten-kept n st i (looked o v t c x p a r) (array t c) none refl
+          clauses =
+              read-case K (λ (m : Move F). Kept n (cells
+              (rewritten i (active v (m .stage)) (array t c) (m .written) st)))
+              c t x o n p a r
+              (λ l. unwritten-kept n st i (looked o v t c x p a r) (array t c) none refl
               (read-kept o sameIs n i v t c x p a near is (h .clauses)))
-              (λ e. unwritten-kept n st i (active v (last .stage)) (array t c) (last .written)
+              (λ l. unwritten-kept n st i (active v (last .stage)) (array t c) (last .written)
               (ended-writes K t c x (see o t a r))
-              (ends-kept (cells st) i v t c x p a near (ltb-false (p + 1) n e) is (h .clauses)));
+              (ends-kept (cells st) i v t c x p a near l is (h .clauses)));
         }
     inv-move {st} {v} {s = has-decided c x} i near is g h = absurd g
     inv-move {st} {v} {s = is-spent c x} i near is g h = absurd g

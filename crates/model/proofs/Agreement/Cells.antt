@@ -1,12 +1,8 @@
 -- A station's cell: its record and its own registers. A call rewrites one cell; every clause of the invariant speaks of
 -- one cell or of two. Relies on the state; the invariant and its moves rely on it.
-use mathlib.Core.Path.{_≡_, refl, sym, ap, subst, fun-ext, _∙_}
-use mathlib.Core.Bool.{Bool, true, false, cond, _&&_}
-use mathlib.Core.Option.{Option, none, some}
-use Prim.Native.Nat.{ℕ}
-use native.Mathlib.Decide.{ℕ-discrete}
-use lib.Dec.{eqb}
-use borrow.Author.Tests.{eq-eqb, ne-eqb}
+use Rattle.model.proofs.Kit.{_≡_, refl, sym, ap, subst, _∙_, Bool, true, false, cond, _&&_, none, some, Option}
+use Rattle.model.proofs.Kit.{ℕ, eq-eqb, ne-eqb, eqb, ℕ-discrete}
+use mathlib.Core.Path.{fun-ext}
 use Rattle.model.specs.Listing.{Register, Station, Array}
 use Rattle.model.proofs.Agreement.State.{State, put, put-same, put-other, sameArray, putWritten}
 

@@ -1,10 +1,7 @@
 -- The theorems: all decisions are one figure, and that figure was proposed by a station that took a step. Relies on the
 -- invariant; every run and the board's theorems rely on it.
-use mathlib.Core.Path.{_≡_, refl, sym, subst}
-use mathlib.Core.Logic.{inl, inr}
-use Prim.Native.Nat.{ℕ, _<_}
+use Rattle.model.proofs.Kit.{_≡_, refl, sym, subst, inl, inr, ℕ, _<_, arith}
 use native.Mathlib.Decide.{decLt}
-use native.Mathlib.Omega.{arith}
 use Rattle.model.specs.Listing.{commit, Stage, has-decided, Station, idle, active, inM, inB}
 use Rattle.model.proofs.Agreement.State.{State}
 use Rattle.model.proofs.Agreement.Cells.{Cell, cells}

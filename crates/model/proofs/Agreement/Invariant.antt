@@ -1,8 +1,6 @@
 -- The invariant over cells, and the one theorem by which every move keeps it: a new cell that owes nothing. Relies on
 -- the own clauses, the pairs and the licences; each kind of move pays what it owes in a file of its own.
-use mathlib.Core.Path.{_≡_, sym, subst}
-use mathlib.Core.Logic.{_⊎_, inl, inr}
-use Prim.Native.Nat.{ℕ, _<_}
+use Rattle.model.proofs.Kit.{_≡_, sym, subst, inl, inr, _⊎_, ℕ, _<_}
 use Rattle.model.specs.Listing.{adopt, commit, turnB, Station, Array, inA, inB}
 use Rattle.model.proofs.Agreement.State.{put}
 use Rattle.model.proofs.Agreement.Cells.{Cell, standing, on-put, on-put₂}
@@ -11,7 +9,8 @@ use Rattle.model.proofs.Agreement.Own.{Own}
 use Rattle.model.proofs.Agreement.Passed.{Passed, passed-marked}
 use Rattle.model.proofs.Agreement.PairsA.{CanMiss}
 use Rattle.model.proofs.Agreement.PairsB.{MayPass, may-marked, not-itself}
-use Rattle.model.proofs.Agreement.Licences.{Holds, Sighted, Committed, Licensed, Steady, committed-stays, licensed-stays}
+use Rattle.model.proofs.Agreement.Licences.{Holds, Sighted, Committed, Licensed, Steady, committed-stays}
+use Rattle.model.proofs.Agreement.Licences.{licensed-stays}
 
 module _ {F : Type 0} (n : ℕ) where
   pub record Kept (f : ℕ → Cell F) : Type 0 where

@@ -1,9 +1,8 @@
 -- Licences: why a figure may stand on an island. Once given, a licence stays, whoever moves. Relies on the own clauses
 -- and on the words for pairs; the invariant, the moves and the theorems rely on it.
-use mathlib.Core.Path.{_≡_, sym, subst}
-use mathlib.Core.Logic.{_⊎_, inl, inr}
-use Prim.Native.Nat.{ℕ, _<_}
-use Rattle.model.specs.Listing.{Flag, adopt, commit, Register, turnM, turnA, turnB, writing, reading, has-decided, is-spent, Station, idle, active, inM, inB, array}
+use Rattle.model.proofs.Kit.{_≡_, sym, subst, inl, inr, _⊎_, ℕ, _<_}
+use Rattle.model.specs.Listing.{Flag, adopt, commit, Register, turnM, turnA, turnB, writing, reading, has-decided}
+use Rattle.model.specs.Listing.{is-spent, Station, idle, active, inM, inB, array}
 use Rattle.model.proofs.Agreement.State.{put}
 use Rattle.model.proofs.Agreement.Cells.{Cell, on-put}
 use Rattle.model.proofs.Listing.Collect.{Filled}

@@ -1,9 +1,8 @@
 -- The own clauses of the invariant: what a station's record says of its own registers. Relies on cells and on the words
 -- for registers; the clauses on pairs, the licences and the moves rely on it.
-use mathlib.Core.Path.{_≡_}
-use Prim.Native.Nat.{ℕ, suc, _<_}
-use native.Mathlib.Omega.{arith}
-use Rattle.model.specs.Listing.{adopt, commit, Register, Turn, turnM, turnA, turnB, writing, reading, has-decided, is-spent, Station, idle, active, Array, inM, inA, inB, array}
+use Rattle.model.proofs.Kit.{_≡_, ℕ, suc, _<_, arith}
+use Rattle.model.specs.Listing.{adopt, commit, Register, Turn, turnM, turnA, turnB, writing, reading, has-decided}
+use Rattle.model.specs.Listing.{is-spent, Station, idle, active, Array, inM, inA, inB, array}
 use Rattle.model.proofs.Agreement.Cells.{Cell}
 use Rattle.model.proofs.Listing.Collect.{Filled}
 use Rattle.model.proofs.Agreement.Registers.{Says, Marked, Left, Brought}

@@ -1,6 +1,6 @@
 -- Who can miss whom in A: the word for the clause on pairs of stations that keeps commits of one island to one figure.
 -- Relies on Passed; the invariant relies on it.
-use Prim.Native.Nat.{ℕ}
+use Rattle.model.proofs.Kit.{ℕ}
 use Rattle.model.specs.Listing.{commit, turnA, turnB, inB}
 use Rattle.model.proofs.Agreement.Cells.{Cell}
 use Rattle.model.proofs.Agreement.Registers.{Marked}

@@ -1,9 +1,9 @@
 -- Who may decide past whom in B: the word for the clause on pairs of stations that keeps a decision apart from an adopt
 -- that met no commit.
 -- Relies on Passed; the licences and the invariant rely on it.
-use mathlib.Core.Path.{_≡_, sym, subst, _∙_}
-use Prim.Native.Nat.{ℕ}
-use Rattle.model.specs.Listing.{adopt, commit, Register, Turn, turnM, turnA, turnB, writing, reading, has-decided, is-spent, Station, idle, active, Array, inB}
+use Rattle.model.proofs.Kit.{_≡_, sym, subst, _∙_, ℕ}
+use Rattle.model.specs.Listing.{adopt, commit, Register, Turn, turnM, turnA, turnB, writing, reading, has-decided}
+use Rattle.model.specs.Listing.{is-spent, Station, idle, active, Array, inB}
 use Rattle.model.proofs.Agreement.Registers.{Marked}
 use Rattle.model.proofs.Agreement.Own.{Awake, Mine}
 use Rattle.model.proofs.Agreement.Passed.{Passed, Decided, passed-marked, passed-awake}

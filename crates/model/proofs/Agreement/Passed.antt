@@ -1,9 +1,9 @@
 -- A station that collects and has passed another's register with what it met still clean: the word that both clauses on
 -- pairs of stations are made of, and what the own clauses say of such a station.
 -- Relies on the own clauses; the pairs on A and on B rely on it.
-use mathlib.Core.Path.{_≡_, subst₂}
-use Prim.Native.Nat.{ℕ, _<_}
-use Rattle.model.specs.Listing.{Flag, Register, Turn, turnB, writing, reading, has-decided, is-spent, Station, idle, active, Array, inB, array}
+use Rattle.model.proofs.Kit.{_≡_, subst₂, ℕ, _<_}
+use Rattle.model.specs.Listing.{Flag, Register, Turn, turnB, writing, reading, has-decided, is-spent, Station}
+use Rattle.model.specs.Listing.{idle, active, Array, inB, array}
 use Rattle.model.proofs.Agreement.Registers.{Marked, Left, Clean}
 use Rattle.model.proofs.Agreement.Own.{Awake, Mine}
 

@@ -1,15 +1,13 @@
 -- A read keeps the invariant: the station looks at the register of position p and goes on to p + 1, which may be the
 -- end. Relies on the facts about one read and on moves that write nothing; the calls rely on it.
-use mathlib.Core.Path.{_≡_, sym, subst, subst₂, subst₃, _∙_}
-use mathlib.Core.Bool.{true}
-use mathlib.Core.Logic.{_⊎_, inl, inr}
-use Prim.Native.Nat.{ℕ, _+_, _<_}
-use native.Mathlib.Decide.{ℕ-discrete}
-use native.Mathlib.Omega.{arith}
-use Rattle.model.specs.Listing.{Order, adopt, commit, Register, Turn, turnM, turnA, turnB, Seen, reading, Station, active, inA, inB, array, see}
+use Rattle.model.proofs.Kit.{_≡_, sym, subst, _∙_, subst₂, true, inl, inr, _⊎_, ℕ, _+_, _<_, ℕ-discrete, arith}
+use mathlib.Core.Path.{subst₃}
+use Rattle.model.specs.Listing.{Order, adopt, commit, Register, Turn, turnM, turnA, turnB, Seen, reading, Station}
+use Rattle.model.specs.Listing.{active, inA, inB, array, see}
 use Rattle.model.proofs.Agreement.State.{put}
 use Rattle.model.proofs.Agreement.Cells.{Cell, standing}
-use Rattle.model.proofs.Agreement.Registers.{Says, Marked, Figure, Best, Met, Left, Brought, Clean, Harmless, harmless-says, harmless-marked, says-one, adopt≢commit}
+use Rattle.model.proofs.Agreement.Registers.{Says, Marked, Figure, Best, Met, Left, Brought, Clean, Harmless}
+use Rattle.model.proofs.Agreement.Registers.{harmless-says, harmless-marked, says-one, adopt≢commit}
 use Rattle.model.proofs.Agreement.Reads.{located, met, kept, brought, clean}
 use Rattle.model.proofs.Agreement.Own.{Mine}
 use Rattle.model.proofs.Agreement.Passed.{Passed}
@@ -88,7 +86,8 @@ module _ {F : Type 0} (o : Order F) (sameIs : (x y : F) → o .same x y ≡ true
 
         go : Passed turnA k j before ⊎ Harmless turnA x (f j .register (inA k)) → Passed turnA k j before ⊎ (y ≡ z)
         go (inl w) = inl w
-        go (inr w) = inr (says-one (f i .register (inA k)) y x l mine ∙ sym (harmless-says x z (f j .register (inA k)) w r))
+        go (inr w) =
+            inr (says-one (f i .register (inA k)) y x l mine ∙ sym (harmless-says x z (f j .register (inA k)) w r))
 
     held : (k : ℕ) (y : F) → Best (array t c) (see o t a there) k y → Licensed n f k y
     held k y b = go (located o t c a there k y b)

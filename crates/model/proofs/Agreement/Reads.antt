@@ -1,17 +1,15 @@
 -- What one read does to what a collect has seen, for any kind of register: it brings what its own register holds and
 -- keeps it, it is clean exactly if it was and the register is harmless, and its figures are figures that it met.
 -- Relies on the words for registers and on the listing's `see`; the moves and the sequential run's collects rely on it.
-use mathlib.Core.Path.{_≡_, refl, sym, _∙_}
-use mathlib.Core.Bool.{Bool, true, false, cond, _&&_, _||_}
-use mathlib.Core.Logic.{_⊎_, inl, inr}
-use Prim.Native.Nat.{ℕ, _≤_}
-use native.Mathlib.Omega.{arith}
-use lib.Dec.{eqb, ltb}
-use borrow.Author.Tests.{ltb-true, ltb-false, eqb-true}
-use Rattle.model.specs.Listing.{Order, Flag, adopt, commit, Register, empty, filled, Turn, turnM, turnA, turnB, Grade, first, second, third, Seen, nothing, seen, inM, array, entry, larger, pairAbove, add, see}
+use Rattle.model.proofs.Kit.{_≡_, refl, sym, _∙_, Bool, true, false, cond, _&&_, _||_, inl, inr, _⊎_, ℕ, _≤_}
+use Rattle.model.proofs.Kit.{eqb-true, ltb-true, ltb-false, eqb, ltb, arith}
+use Rattle.model.specs.Listing.{Order, Flag, adopt, commit, Register, empty, filled, Turn, turnM, turnA, turnB}
+use Rattle.model.specs.Listing.{Grade, first, second, third, Seen, nothing, seen, inM, array, entry, larger}
+use Rattle.model.specs.Listing.{pairAbove, add, see}
 use Rattle.model.proofs.Basics.Tests.{cond-case}
 use Rattle.model.proofs.Listing.Collect.{larger-is}
-use Rattle.model.proofs.Agreement.Registers.{Says, Marked, Figure, Best, Met, Left, Brought, Clean, Harmless, adopt≢commit}
+use Rattle.model.proofs.Agreement.Registers.{Says, Marked, Figure, Best, Met, Left, Brought, Clean, Harmless}
+use Rattle.model.proofs.Agreement.Registers.{adopt≢commit}
 
 first-or-second : (a b c : Bool) → (a || (b && c)) ≡ true → (a ≡ true) ⊎ (b ≡ true)
 first-or-second true b c e = inl refl

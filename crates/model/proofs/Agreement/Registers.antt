@@ -1,9 +1,8 @@
 -- What is said of one register, and of what a collect has seen so far. Relies on the listing's values alone; the facts
 -- about one read and every clause of the invariant are stated in these words.
-use mathlib.Core.Path.{_≡_, sym, _∙_}
-use Prim.Native.Nat.{ℕ, _≤_}
-use native.Mathlib.Omega.{arith}
-use Rattle.model.specs.Listing.{Flag, adopt, commit, Register, empty, filled, Turn, turnM, turnA, turnB, first, second, third, Seen, nothing, seen, Array, inM, inA, inB}
+use Rattle.model.proofs.Kit.{_≡_, sym, _∙_, ℕ, _≤_, arith}
+use Rattle.model.specs.Listing.{Flag, adopt, commit, Register, empty, filled, Turn, turnM, turnA, turnB, first}
+use Rattle.model.specs.Listing.{second, third, Seen, nothing, seen, Array, inM, inA, inB}
 use Rattle.model.proofs.Listing.Collect.{Filled}
 
 -- the island of a figure that stands in array a beside the island k: only m writes islands into its registers

@@ -1,10 +1,8 @@
 -- A move that writes nothing, as a proposal, a read and the end of a collect: what it owes is said of the station's
 -- record before and after alone. Relies on the invariant; the three kinds of such moves rely on it.
-use mathlib.Core.Path.{_≡_, refl, sym, subst, subst₂}
-use mathlib.Core.Logic.{_⊎_, inl, inr}
-use Prim.Native.Nat.{ℕ, _≤_, _<_}
-use native.Mathlib.Omega.{arith}
-use Rattle.model.specs.Listing.{adopt, commit, Turn, turnM, turnA, turnB, Station, idle, active, writing, inA, inB, proposed}
+use Rattle.model.proofs.Kit.{_≡_, refl, sym, subst, subst₂, inl, inr, _⊎_, ℕ, _≤_, _<_, arith}
+use Rattle.model.specs.Listing.{adopt, commit, Turn, turnM, turnA, turnB, Station, idle, active, writing, inA}
+use Rattle.model.specs.Listing.{inB, proposed}
 use Rattle.model.proofs.Agreement.State.{put}
 use Rattle.model.proofs.Agreement.Cells.{Cell, standing}
 use Rattle.model.proofs.Agreement.Registers.{Says, Marked}

@@ -1,13 +1,11 @@
 -- The end of a collect keeps the invariant: where the next position is n, the station goes on by what it has seen.
 -- Relies on moves that write nothing; the calls rely on it.
-use mathlib.Core.Path.{_≡_, refl, sym, subst, subst₂}
-use mathlib.Core.Logic.{inl, inr}
-use Prim.Native.Nat.{ℕ, suc, _+_, _≤_, _<_}
-use native.Mathlib.Decide.{ℕ-discrete}
-use native.Mathlib.Omega.{arith}
-use lib.Dec.{ltb}
-use Rattle.model.specs.Listing.{Flag, adopt, commit, Turn, turnM, turnA, turnB, Grade, first, second, third, Seen, nothing, seen, writing, reading, has-decided, is-spent, Station, active, Move, inA, inB, array, stay, onward, finish, ended}
-use Rattle.model.proofs.Basics.Tests.{cond-case}
+use Rattle.model.proofs.Kit.{_≡_, refl, sym, subst, subst₂, inl, inr, ℕ, suc, _+_, _≤_, _<_, ℕ-discrete, arith}
+use Rattle.model.specs.Listing.{Flag, adopt, commit, Turn, turnM, turnA, turnB, Grade, first, second, third, Seen}
+use Rattle.model.specs.Listing.{nothing, seen, writing, reading, has-decided, is-spent, Station, active, Move}
+use Rattle.model.specs.Listing.{inA, inB}
+use Rattle.model.specs.Listing.{array, stay, onward, finish, ended}
+use Rattle.model.proofs.Listing.Cases.{onward-case}
 use Rattle.model.proofs.Agreement.State.{put}
 use Rattle.model.proofs.Agreement.Cells.{Cell, standing}
 use Rattle.model.proofs.Agreement.Registers.{Says, Marked, Brought, marked-filled}
@@ -51,11 +49,11 @@ module _ {F : Type 0} (n : ℕ) {f : ℕ → Cell F} (i : ℕ) (v : F) (near : i
     -- a figure that may leave its island goes on to the next
     goes-on : (K : ℕ) (y : F) → after t c ≤ suc c → Licensed n f c y → Out f c y
         → Restaged n f i before (active v (onward K c y .stage))
-    unfolding onward stay
-    goes-on K y up l out = cond-case (λ (m : Move F). Restaged n f i before (active v (m .stage))) (ltb (c + 1) K) _ _
+    unfolding stay
+    goes-on K y up l out = onward-case K (λ (m : Move F). Restaged n f i before (active v (m .stage))) c y
         (λ _. to-next turnM (c + 1) y (omega arith) (λ e. absurd (omega arith))
         (λ j k b q. absurd (committing turnM (q .0))) next)
-        (λ _. to-spent y up l)
+        (to-spent y up l)
       where
         next : Licensed n f (c + 1) y
         next = record { valid = l .valid; out = λ k b. there k b (ℕ-discrete c k) }
@@ -136,21 +134,18 @@ module _ {F : Type 0} (n : ℕ) {f : ℕ → Cell F} (i : ℕ) (v : F) (near : i
   ends : (K : ℕ) (t : Turn) (c : ℕ) (x : F) (p : ℕ) (a : Seen F) → f i .station ≡ active v (reading t c x p a) → n ≤ p
       → Restaged n f i (active v (reading t c x p a)) (active v (ended K t c x a .stage))
   unfolding ended finish stay array
-  ends K turnM c x p nothing is e = absurd (shows turnM c x p nothing is e)
+  ends K t c x p nothing is e = absurd (shows t c x p nothing is e)
   ends K turnM c x p (seen g k y) is e =
       to-next turnM c x p (seen g k y) is e turnA k y (shows turnM c x p (seen g k y) is e) tt
       (λ j k b q. absurd (committing turnA (q .0))) (held-at h is k y (refl, refl))
-  ends K turnA c x p nothing is e = absurd (shows turnA c x p nothing is e)
   ends K turnA c x p (seen first k y) is e = to-mark c x p k y is e
   ends K turnA c x p (seen second k y) is e = to-adopt c x p second k y is e
   ends K turnA c x p (seen third k y) is e = to-adopt c x p third k y is e
-  ends K (turnB adopt) c x p nothing is e = absurd (shows (turnB adopt) c x p nothing is e)
   ends K (turnB adopt) c x p (seen first k y) is e =
       goes-on (turnB adopt) c x p (seen first k y) is e K y (omega arith) (held-at h is c y (refl, refl))
       (spoils c x p k y is e)
   ends K (turnB adopt) c x p (seen second k y) is e = absurd (shows (turnB adopt) c x p (seen second k y) is e)
   ends K (turnB adopt) c x p (seen third k y) is e = mixes K adopt c x p k y is e
-  ends K (turnB commit) c x p nothing is e = absurd (shows (turnB commit) c x p nothing is e)
   ends K (turnB commit) c x p (seen first k y) is e = absurd (shows (turnB commit) c x p (seen first k y) is e)
   ends K (turnB commit) c x p (seen second k y) is e = to-decided c x p k y is e
   ends K (turnB commit) c x p (seen third k y) is e = mixes K commit c x p k y is e

@@ -1,12 +1,9 @@
 -- The state of all stations and registers as functions of a station's index, and the two calls on it.
 -- Relies on the listing; the invariant and the sequential run rely on it.
-use mathlib.Core.Path.{_≡_, refl, sym, ap}
-use mathlib.Core.Bool.{Bool, true, false, cond, _&&_}
-use mathlib.Core.Option.{Option, none, some}
-use Prim.Native.Nat.{ℕ}
-use lib.Dec.{eqb}
-use borrow.Author.Tests.{eqb-true, eq-eqb, ne-eqb}
-use Rattle.model.specs.Listing.{Order, Register, empty, Station, idle, active, Stage, Array, inM, inA, inB, Move, placeArray, placeColumn, proposed, move}
+use Rattle.model.proofs.Kit.{_≡_, refl, sym, ap, Bool, true, false, cond, _&&_, none, some, Option, ℕ, eqb-true}
+use Rattle.model.proofs.Kit.{eq-eqb, ne-eqb, eqb}
+use Rattle.model.specs.Listing.{Order, Register, empty, Station, idle, active, Stage, Array, inM, inA, inB, Move}
+use Rattle.model.specs.Listing.{placeArray, placeColumn, proposed, move}
 use Rattle.model.proofs.Basics.Tests.{clash}
 
 pub record State (F : Type 0) : Type 0 where

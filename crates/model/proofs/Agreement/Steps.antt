@@ -1,14 +1,11 @@
 -- Who took a step: a step fills the station's register of m, and a filled register stays filled. Relies on the
 -- listing's moves and on the invariant; every run relies on it, to read off the state who took a step.
-use mathlib.Core.Path.{_≡_, refl, sym, subst}
-use mathlib.Core.Bool.{Bool, cond, _&&_}
-use mathlib.Core.Option.{Option, none, some}
-use Prim.Native.Nat.{ℕ, _+_}
-use lib.Dec.{ltb, eqb}
-use borrow.Author.Tests.{eq-eqb}
-use Rattle.model.specs.Listing.{Order, adopt, Register, filled, turnM, turnA, turnB, Stage, writing, reading, has-decided, is-spent, Station, active, Move, Array, inM, entry, array, placeArray, placeColumn, stay, see, move}
+use Rattle.model.proofs.Kit.{_≡_, refl, sym, subst, Bool, cond, _&&_, none, some, Option, ℕ, eq-eqb, eqb}
+use Rattle.model.specs.Listing.{Order, adopt, Register, filled, turnM, turnA, turnB, Stage, writing, reading}
+use Rattle.model.specs.Listing.{has-decided, is-spent, Station, active, Array, inM, entry, array, placeArray}
+use Rattle.model.specs.Listing.{placeColumn, stay, move}
 use Rattle.model.proofs.Listing.Going.{Going}
-use Rattle.model.proofs.Listing.Written.{ended-writes}
+use Rattle.model.proofs.Listing.Written.{read-writes}
 use Rattle.model.proofs.Basics.Tests.{cond-case}
 use Rattle.model.proofs.Agreement.State.{State, sameArray, putWritten, moveOf, moving}
 use Rattle.model.proofs.Agreement.Cells.{cells}
@@ -25,8 +22,8 @@ module _ {F : Type 0} where
   move-fills : (o : Order F) (n K : ℕ) (s : Stage F) (r : Register F) → Fills (move o n K s r .written)
   unfolding move stay
   move-fills o n K (writing t c x) r = entry-fills t c x
-  move-fills o n K (reading t c x p a) r = cond-case (λ (m : Move F). Fills (m .written)) (ltb (p + 1) n) _ _
-      (λ _. tt) (λ _. subst Fills (sym (ended-writes K t c x (see o t a r))) tt)
+  move-fills o n K (reading t c x p a) r =
+      subst Fills (sym (read-writes K o n t c x p a r)) tt
   move-fills o n K (has-decided c x) r = tt
   move-fills o n K (is-spent c x) r = tt
 

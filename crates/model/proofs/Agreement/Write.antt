@@ -1,11 +1,8 @@
 -- A write keeps the invariant: the station fills its own register of the turn's array and starts a collect. Relies on
 -- what a write does to registers and on the invariant's theorem on moves; the calls rely on it.
-use mathlib.Core.Path.{_≡_, refl, sym, subst}
-use mathlib.Core.Logic.{_⊎_, inl, inr}
-use Prim.Native.Nat.{ℕ, _<_}
-use native.Mathlib.Decide.{ℕ-discrete}
-use native.Mathlib.Omega.{arith}
-use Rattle.model.specs.Listing.{adopt, commit, Register, Turn, turnM, turnA, turnB, nothing, writing, reading, Station, active, Array, inM, inA, inB}
+use Rattle.model.proofs.Kit.{_≡_, refl, sym, subst, inl, inr, _⊎_, ℕ, _<_, ℕ-discrete, arith}
+use Rattle.model.specs.Listing.{adopt, commit, Register, Turn, turnM, turnA, turnB, nothing, writing, reading}
+use Rattle.model.specs.Listing.{Station, active, Array, inM, inA, inB}
 use Rattle.model.proofs.Agreement.State.{put, put-same}
 use Rattle.model.proofs.Agreement.Cells.{Cell}
 use Rattle.model.proofs.Listing.Collect.{Filled}
@@ -16,7 +13,8 @@ use Rattle.model.proofs.Agreement.PairsA.{CanMiss, unmet, to-commit, co
 use Rattle.model.proofs.Agreement.PairsB.{passing, MayPass, past}
 use Rattle.model.proofs.Agreement.Licences.{Sighted, Committed, Licensed, Steady, licensed-stays}
 use Rattle.model.proofs.Agreement.Invariant.{Kept, keeps, own-at, held-at}
-use Rattle.model.proofs.Agreement.Writes.{wrote, Early, wrote-same, wrote-fills, wrote-stays, wrote-early, wrote-left, wrote-commits, wrote-over, wrote-stored}
+use Rattle.model.proofs.Agreement.Writes.{wrote, Early, wrote-same, wrote-fills, wrote-stays, wrote-early}
+use Rattle.model.proofs.Agreement.Writes.{wrote-left, wrote-commits, wrote-over, wrote-stored}
 
 module _ {F : Type 0} (n : ℕ) {f : ℕ → Cell F} (i : ℕ) (v : F) (t : Turn) (c : ℕ) (x : F) (near : i < n)
     (is : f i .station ≡ active v (writing t c x)) (h : Kept n f) where

@@ -1,11 +1,8 @@
 -- What a write does to a station's own registers, whatever the turn. Relies on the words for registers and on the own
 -- clauses; the move that writes relies on it.
-use mathlib.Core.Path.{_≡_, refl, sym, subst, subst₂}
-use mathlib.Core.Option.{some}
-use mathlib.Core.Logic.{_⊎_, inl, inr}
-use Prim.Native.Nat.{ℕ, suc, _<_}
-use native.Mathlib.Omega.{arith}
-use Rattle.model.specs.Listing.{adopt, commit, Register, Turn, turnM, turnA, turnB, writing, active, Array, inM, inA, inB, array, entry}
+use Rattle.model.proofs.Kit.{_≡_, refl, sym, subst, subst₂, inl, inr, _⊎_, some, ℕ, suc, _<_, arith}
+use Rattle.model.specs.Listing.{adopt, commit, Register, Turn, turnM, turnA, turnB, writing, active, Array, inM}
+use Rattle.model.specs.Listing.{inA, inB, array, entry}
 use Rattle.model.proofs.Agreement.State.{put, sameArray, put-same}
 use Rattle.model.proofs.Agreement.Cells.{written, on-put}
 use Rattle.model.proofs.Listing.Collect.{Filled}

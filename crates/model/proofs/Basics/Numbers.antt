@@ -1,22 +1,16 @@
 -- Numbers of several bytes, and figures, as bytes and back. One law each, for any count of bytes.
 -- Relies on Bytes, Figure and Tests; the laws on registers and records rely on it.
-use mathlib.Core.Path.{_≡_, refl, sym, ap, _∙_, subst}
-use mathlib.Core.Bool.{Bool, true, false}
-use mathlib.Core.List.{List, [], _∷_}
-use Prim.Native.Nat.{ℕ, zero, suc, _+_, _*_, _^_, _-_, _/_, _%_, _<_}
-use native.Mathlib.Nat.{div-add-mod', pow-suc, div-lt-iff-lt-mul, add-mul-mod-self-left, mod-eq-of-lt, add-mul-div-left, div-eq-of-lt, zero-add}
-use native.Mathlib.Omega.{arith}
-use lib.Dec.{T, ltb, eqb→eq, eqb-refl, lit<, ltb→lt}
-use lib.IntN.{pos, negsuc}
-use lib.Signed.{mag, ltZ}
-use lib.ListN.{length}
-use mir.Syntax.{w32}
-use mir.Val.{toZ, ofZ, hbits, SFits, sel}
-use mir.Facts.{toZ-ofZ, ofZ-toZ, fits-ofZ}
-use borrow.Author.Tests.{ltb-false}
+use Rattle.model.proofs.Kit.{_≡_, refl, ap, _∙_, Bool, true, List, [], _∷_, ℕ, zero, suc, _+_, _<_, _/_, _%_}
+use Rattle.model.proofs.Kit.{_*_, ltb-true, ltb-false, ltb, lit<, T, eqb→eq, eqb-refl, pos, negsuc, length, ltZ}
+use Rattle.model.proofs.Kit.{toZ-ofZ, w32, toZ, ofZ, SFits, arith}
+use Prim.Native.Nat.{_^_}
+use native.Mathlib.Nat.{pow-suc}
+use lib.Signed.{mag}
+use mir.Val.{hbits}
+use mir.Facts.{ofZ-toZ, fits-ofZ}
 use Rattle.model.specs.Bytes.{number, digits}
 use Rattle.model.specs.Figure.{Figure, figure, figureBytes, figures, sameFigure}
-use Rattle.model.proofs.Basics.Tests.{true-T, T-true}
+use Rattle.model.proofs.Basics.Tests.{true-T, T-true, by-test}
 
 -- every element is a byte
 unfoldable pub Bytes : List ℕ → Type 0
@@ -32,33 +26,28 @@ pub number-digits : (k x : ℕ) → x < 256 ^ k → number (digits k x) ≡ x
 unfolding number digits
 number-digits zero x h = omega arith
 number-digits (suc k) x h =
-    ap (λ (y : ℕ). x % 256 + 256 * y) (number-digits k (x / 256) (div-lt-iff-lt-mul (lit< tt) .1 (subst (λ (m : ℕ). x < m) (pow-suc 256 k) h)))
-    ∙ omega (arith, div-add-mod' x 256)
+    let high : x / 256 < 256 ^ k = omega (arith, pow-suc 256 k) in
+    rw (number-digits k (x / 256) high) (omega arith)
 
 pub digits-number : (bs : List ℕ) → Bytes bs → digits (length bs) (number bs) ≡ bs
 unfolding number digits Bytes
 digits-number [] h = refl
-digits-number (b ∷ bs) h = λ i. low i ∷ (ap (digits (length bs)) high ∙ digits-number bs (h .1)) i
-  where
-    low : (b + 256 * number bs) % 256 ≡ b
-    low = add-mul-mod-self-left b 256 (number bs) ∙ mod-eq-of-lt (h .0)
-
-    high : (b + 256 * number bs) / 256 ≡ number bs
-    high = add-mul-div-left b (number bs) (lit< tt) ∙ ap (λ (x : ℕ). x + number bs) (div-eq-of-lt (h .0)) ∙ zero-add (number bs)
+digits-number (b ∷ bs) h =
+    let low : (b + 256 * number bs) % 256 ≡ b = omega (arith, h .0) in
+    let high : (b + 256 * number bs) / 256 ≡ number bs = omega (arith, h .0) in
+    cc (low, high, digits-number bs (h .1))
 
 pub number-lt : (bs : List ℕ) → Bytes bs → number bs < 256 ^ length bs
 unfolding number Bytes
 number-lt [] h = lit< tt
-number-lt (b ∷ bs) h = subst (λ (m : ℕ). b + 256 * number bs < m) (sym (pow-suc 256 (length bs))) (omega (arith, number-lt bs (h .1), h .0))
+number-lt (b ∷ bs) h = rw pow-suc (omega (arith, number-lt bs (h .1), h .0))
 
 -- Whatever bits are read, the figure is a 32-bit one.
 pub figure-fits : (b : List ℕ) → SFits w32 (figure b)
 unfolding figure
-figure-fits b = go (ltb (number b) (2 ^ 31)) refl
-  where
-    go : (t : Bool) → ltb (number b) (2 ^ 31) ≡ t → SFits w32 (sel t (pos (number b)) (negsuc (2 ^ 32 - suc (number b))))
-    go true e = record { sfits = ltb→lt (number b) (2 ^ 31) (subst T (sym e) tt) }
-    go false e = record { sfits = omega (arith, ltb-false (number b) (2 ^ 31) e) }
+figure-fits b =
+    by-test (ltb (number b) (2 ^ 31)) (λ e. rw e (record { sfits = ltb-true (number b) (2 ^ 31) e }))
+    (λ e. rw e (record { sfits = omega (arith, ltb-false (number b) (2 ^ 31) e) }))
 
 -- "figures in two's complement": each way round
 pub figure-bytes : (v : Figure) → SFits w32 v → figure (figureBytes v) ≡ v
@@ -68,8 +57,7 @@ figure-bytes v h = ap (toZ w32) (number-digits 4 (ofZ w32 v) (fits-ofZ h .fits))
 pub bytes-figure : (b : List ℕ) → length b ≡ 4 → Bytes b → figureBytes (figure b) ≡ b
 unfolding figure figureBytes
 bytes-figure b l h =
-    ap (digits 4) (ofZ-toZ {w = w32} (record { fits = subst (λ (k : ℕ). number b < 256 ^ k) l (number-lt b h) }))
-    ∙ ap (λ (k : ℕ). digits k (number b)) (sym l) ∙ digits-number b h
+    ap (digits 4) (ofZ-toZ {w = w32} (record { fits = rw l at (number-lt b h) })) ∙ rw l at (digits-number b h)
 
 -- the test of equality tells equal figures
 pub same-is : (v w : Figure) → T (sameFigure v w) → v ≡ w
@@ -99,4 +87,4 @@ landed v f = toZ-ofZ (record { sfits = f })
 
 -- its sign is that of the number read back from its bits, which is the one that the code tests
 pub sign : (v : Figure) → SFits w32 v → (t : Bool) → ltZ (toZ w32 (ofZ w32 v)) (pos 0) ≡ t → ltZ v (pos 0) ≡ t
-sign v h t e = ap (λ (z : Figure). ltZ z (pos 0)) (sym (toZ-ofZ h)) ∙ e
+sign v h t e = rw (toZ-ofZ h) at e

@@ -1,16 +1,13 @@
 -- A list of bytes by its parts: a part byte by byte, parts joined, and parts of bytes.
 -- Relies on Bytes and Splices; the form of sound registers and records relies on it, and so do the code's proofs.
-use mathlib.Core.Path.{_≡_, refl, sym, ap, _∙_}
-use mathlib.Core.List.{List, [], _∷_, _++_}
-use Prim.Native.Nat.{ℕ, zero, suc, _+_, _≤_, _<_}
-use native.Mathlib.Omega.{arith}
-use lib.Dec.{T}
-use lib.ListN.{length, replicate, take, drop, getD-replicate}
-use lib.Seq.{take-all, take-add, drop-drop, ext-getD}
+use Rattle.model.proofs.Kit.{_≡_, refl, sym, ap, _∙_, List, [], _∷_, _++_, ℕ, zero, suc, _+_, _≤_, _<_, T}
+use Rattle.model.proofs.Kit.{length, take, drop, replicate, drop-drop, take-all, arith}
+use lib.ListN.{getD-replicate}
+use lib.Seq.{take-add}
 use Rattle.model.specs.Bytes.{byte, part, zeros}
 use Rattle.model.proofs.Basics.Tests.{zeros-is}
 use Rattle.model.proofs.Basics.Numbers.{Bytes}
-use Rattle.model.proofs.Basics.Splices.{length-part, byte-part}
+use Rattle.model.proofs.Basics.Splices.{length-part, byte-part, part-is}
 
 -- the values of f at 0, 1, .., k − 1
 unfoldable pub listed : ℕ → (ℕ → ℕ) → List ℕ
@@ -31,14 +28,11 @@ byte-listed (suc k) f (suc i) h = byte-listed k (λ j. f (suc j)) i (omega arith
 -- a part that is inside, byte by byte
 pub part-listed : (at len : ℕ) (b : List ℕ) → at + len ≤ length b → part at len b ≡ listed len (λ i. byte b (at + i))
 part-listed at len b h =
-    ext-getD 0 (part at len b) (listed len (λ i. byte b (at + i))) (length-part at len b h ∙ sym (length-listed len (λ i. byte b (at + i))))
-    (λ (i : ℕ) (l : i < length (part at len b)).
-    let j : i < len = omega (arith, length-part at len b h) in
-    byte-part at len b i j ∙ sym (byte-listed len (λ k. byte b (at + k)) i j))
+    part-is at len b _ h (length-listed len _) (λ i l. sym (byte-listed len (λ k. byte b (at + k)) i l))
 
 pub part-join : (at a c : ℕ) (b : List ℕ) → part at (a + c) b ≡ part at a b ++ part (at + a) c b
 unfolding part
-part-join at a c b = take-add a c (drop at b) ∙ ap (λ (l : List ℕ). take a (drop at b) ++ take c l) (drop-drop a at b)
+part-join at a c b = take-add a c (drop at b) ∙ rw (drop-drop a at b)
 
 pub part-whole : (b : List ℕ) (len : ℕ) → length b ≡ len → part 0 len b ≡ b
 unfolding part
@@ -61,9 +55,10 @@ unfolding part
 part-Bytes at len b h = take-Bytes len (drop at b) (drop-Bytes at b h)
 
 -- a part that passes the test of zeros
-pub part-zeros : (at len : ℕ) (b : List ℕ) → at + len ≤ length b → T (zeros (part at len b)) → part at len b ≡ replicate len 0
-part-zeros at len b h t = zeros-is (part at len b) t ∙ ap (λ (k : ℕ). replicate k 0) (length-part at len b h)
+pub part-zeros : (at len : ℕ) (b : List ℕ) → at + len ≤ length b → T (zeros (part at len b))
+    → part at len b ≡ replicate len 0
+part-zeros at len b h t = zeros-is (part at len b) t ∙ rw (length-part at len b h)
 
-pub zero-at : (at len : ℕ) (b : List ℕ) → at + len ≤ length b → T (zeros (part at len b)) → (i : ℕ) → i < len → byte b (at + i) ≡ 0
-zero-at at len b h t i l =
-    sym (byte-part at len b i l) ∙ ap (λ (p : List ℕ). byte p i) (part-zeros at len b h t) ∙ getD-replicate len i 0 0 l
+pub zero-at : (at len : ℕ) (b : List ℕ) → at + len ≤ length b → T (zeros (part at len b)) → (i : ℕ) → i < len
+    → byte b (at + i) ≡ 0
+zero-at at len b h t i l = sym (byte-part at len b i l) ∙ rw (part-zeros at len b h t) (getD-replicate len i 0 0 l)

@@ -1,19 +1,14 @@
 -- A board after a station's record or one register was put in: what each part of it then holds.
 -- Relies on Splices, Places and Codec; that the calls keep a board sound relies on it, and the bridge to values.
-use mathlib.Core.Path.{_≡_, sym, ap, _∙_}
-use mathlib.Core.Logic.{_⊎_, ⊎-elim}
-use mathlib.Core.List.{List}
-use mathlib.Core.Option.{some}
-use Prim.Native.Nat.{ℕ, _+_, _≤_, _<_}
-use native.Mathlib.Omega.{arith}
-use lib.ListN.{length}
+use Rattle.model.proofs.Kit.{_≡_, sym, ap, _∙_, ⊎-elim, _⊎_, List, some, ℕ, _+_, _≤_, _<_, length, arith}
 use Rattle.model.specs.Bytes.{byte, part, splice}
 use Rattle.model.specs.Figure.{Figure}
 use Rattle.model.specs.Listing.{Register, Station, Array}
 use Rattle.model.specs.Layout.{boardLength, registerAt, recordAt, recordOf}
 use Rattle.model.specs.Calls.{putStation, putRegister}
 use Rattle.model.proofs.Basics.Splices.{length-splice, byte-before, part-same, part-before, part-after}
-use Rattle.model.proofs.Board.Places.{InBoard, head-first, register-inside, record-inside, register-fits, head-before-records, records-apart, registers-apart}
+use Rattle.model.proofs.Board.Places.{InBoard, head-first, register-inside, record-inside, register-fits}
+use Rattle.model.proofs.Board.Places.{head-before-records, records-apart, registers-apart}
 use Rattle.model.proofs.Board.Codec.{registerBytes, recordBytes, length-register, length-record}
 
 -- the register of array a and station index j, as bytes
@@ -21,7 +16,8 @@ unfoldable pub registerPart : (n : ℕ) → Array → (j : ℕ) → List ℕ →
 registerPart n a j b = part (registerAt n a j) 8 b
 
 -- A splice of v at `at` leaves a part alone that lies before it or after it.
-part-apart : (at : ℕ) (v b : List ℕ) (size : ℕ) → length v ≡ size → at + size ≤ length b → (from len : ℕ) → from + len ≤ length b
+part-apart : (at : ℕ) (v b : List ℕ) (size : ℕ) → length v ≡ size → at + size ≤ length b → (from len : ℕ)
+    → from + len ≤ length b
     → (from + len ≤ at) ⊎ (at + size ≤ from) → part from len (splice at v b) ≡ part from len b
 part-apart at v b size e fits from len h s =
     ⊎-elim (λ (l : from + len ≤ at). part-before at v b (omega arith) from len l)
@@ -53,14 +49,18 @@ module _ (n K : ℕ) (b : List ℕ) (len : length b ≡ boardLength n K) (i : �
   pub station-other : (j : ℕ) → j < n → (i ≡ j → ⊥) → recordOf n K j (putStation n K i s b) ≡ recordOf n K j b
   unfolding putStation recordOf
   station-other j h f =
-      part-apart (recordAt n K i) (recordBytes s) b 24 (length-record s) (omega (arith, record-inside n K i own)) (recordAt n K j) 24
+      part-apart (recordAt n K i) (recordBytes s) b 24 (length-record s) (omega (arith, record-inside n K i own))
+      (recordAt n K j) 24
       (omega (arith, record-inside n K j h)) (records-apart n K j i (λ (e : j ≡ i). f (sym e)))
 
-  pub station-register : (a : Array) (j : ℕ) → InBoard K a → j < n → registerPart n a j (putStation n K i s b) ≡ registerPart n a j b
+  pub station-register : (a : Array) (j : ℕ) → InBoard K a → j < n
+      → registerPart n a j (putStation n K i s b) ≡ registerPart n a j b
   unfolding putStation registerPart
-  station-register a j h l = part-before (recordAt n K i) (recordBytes s) b fits (registerAt n a j) 8 (register-inside n K a j i h l)
+  station-register a j h l =
+      part-before (recordAt n K i) (recordBytes s) b fits (registerAt n a j) 8 (register-inside n K a j i h l)
 
-module _ (n K : ℕ) (b : List ℕ) (len : length b ≡ boardLength n K) (a : Array) (inside : InBoard K a) (i : ℕ) (own : i < n) (r : Register Figure) where
+module _ (n K : ℕ) (b : List ℕ) (len : length b ≡ boardLength n K) (a : Array) (inside : InBoard K a) (i : ℕ)
+    (own : i < n) (r : Register Figure) where
   fits-register : registerAt n a i + length (registerBytes r) ≤ length b
   fits-register = omega (arith, register-fits n K a i inside own, length-register r)
 
@@ -70,9 +70,11 @@ module _ (n K : ℕ) (b : List ℕ) (len : length b ≡ boardLength n K) (a : Ar
 
   pub register-head : (k : ℕ) → k < 8 → byte (putRegister n a i (some r) b) k ≡ byte b k
   unfolding putRegister
-  register-head k h = byte-before (registerAt n a i) (registerBytes r) b fits-register k (omega (arith, head-first n K a i))
+  register-head k h =
+      byte-before (registerAt n a i) (registerBytes r) b fits-register k (omega (arith, head-first n K a i))
 
-  pub register-before : (from size : ℕ) → from + size ≤ 8 → part from size (putRegister n a i (some r) b) ≡ part from size b
+  pub register-before : (from size : ℕ) → from + size ≤ 8
+      → part from size (putRegister n a i (some r) b) ≡ part from size b
   unfolding putRegister
   register-before from size h =
       part-before (registerAt n a i) (registerBytes r) b fits-register from size (omega (arith, head-first n K a i))
@@ -80,14 +82,16 @@ module _ (n K : ℕ) (b : List ℕ) (len : length b ≡ boardLength n K) (a : Ar
   pub register-same : registerPart n a i (putRegister n a i (some r) b) ≡ registerBytes r
   unfolding putRegister registerPart
   register-same =
-      ap (λ (k : ℕ). part (registerAt n a i) k (splice (registerAt n a i) (registerBytes r) b)) (sym (length-register r))
+      ap (λ (k : ℕ). part (registerAt n a i) k (splice (registerAt n a i) (registerBytes r) b))
+      (sym (length-register r))
       ∙ part-same (registerAt n a i) (registerBytes r) b fits-register
 
   pub register-other : (c : Array) (j : ℕ) → InBoard K c → j < n → ((c ≡ a) × (j ≡ i) → ⊥)
       → registerPart n c j (putRegister n a i (some r) b) ≡ registerPart n c j b
   unfolding putRegister registerPart
   register-other c j h l f =
-      part-apart (registerAt n a i) (registerBytes r) b 8 (length-register r) (omega (arith, register-fits n K a i inside own))
+      part-apart (registerAt n a i) (registerBytes r) b 8 (length-register r)
+      (omega (arith, register-fits n K a i inside own))
       (registerAt n c j) 8 (omega (arith, register-fits n K c j h l)) (registers-apart n c j a i l own f)
 
   pub register-record : (j : ℕ) → j < n → recordOf n K j (putRegister n a i (some r) b) ≡ recordOf n K j b

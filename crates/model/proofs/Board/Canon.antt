@@ -1,27 +1,23 @@
 -- Encoding after decoding is the identity on sound registers and records, bytes being bytes.
--- Relies on Codec, Numbers, Splices, Good and soundness's clauses; it says that a sound part has one meaning and one form.
-use mathlib.Core.Path.{_≡_, refl, sym, ap, _∙_, subst}
-use mathlib.Core.Bool.{Bool, false, cond, _&&_, _||_}
-use mathlib.Core.Logic.{⊎-elim}
-use mathlib.Core.List.{List, [], _∷_, _++_}
-use Prim.Native.Nat.{ℕ, zero, suc, _+_, _≤_}
-use native.Mathlib.Omega.{arith}
-use lib.Dec.{T, eqb, leb, ltb, leb→le, eqb→eq, eqb·suc-zero, lit≤}
-use lib.IntN.{pos}
-use lib.ListN.{length, replicate}
+-- Relies on Codec, Numbers, Splices, Good and soundness's clauses; so a sound part has one meaning and one form.
+use Rattle.model.proofs.Kit.{_≡_, refl, sym, ap, subst, _∙_, Bool, false, cond, _&&_, _||_, ⊎-elim, List, []}
+use Rattle.model.proofs.Kit.{_∷_, _++_, ℕ, zero, suc, _+_, _≤_, eqb, leb, ltb, leb→le, T, eqb→eq, lit≤, pos}
+use Rattle.model.proofs.Kit.{length, replicate, arith}
+use lib.Dec.{eqb·suc-zero}
 use Rattle.model.specs.Bytes.{byte, part, digits, zeros, implies}
 use Rattle.model.specs.Figure.{Figure, figure, figureBytes}
-use Rattle.model.specs.Listing.{Flag, adopt, commit, filled}
-use Rattle.model.specs.Listing.{Seen, nothing}
-use Rattle.model.specs.Listing.{flagOf, flagNumber}
-use Rattle.model.specs.Layout.{layRegister, readRegister, registerFields, registerValue, seenNumber, bestIsland, bestFigure, seenOf, writePhase, flagByte}
-use Rattle.model.specs.Layout.{readRecord, layRecord, fields, recordFields, recordValue, writingOf, readingOf, ofPhase}
-use Rattle.model.specs.Sound.{registerSound, collecting, phaseKnown, flagKnown, restZero, idleZero, collectZero, bestIslandZero, bestZero, seenKnown, fieldsSound}
+use Rattle.model.specs.Listing.{Flag, adopt, commit, filled, Seen, nothing, flagOf, flagNumber}
+use Rattle.model.specs.Layout.{layRegister, readRegister, registerFields, registerValue, seenNumber, bestIsland}
+use Rattle.model.specs.Layout.{bestFigure, seenOf, writePhase, flagByte, readRecord, layRecord, fields}
+use Rattle.model.specs.Layout.{recordFields, recordValue, writingOf, readingOf, ofPhase}
+use Rattle.model.specs.Sound.{registerSound, collecting, phaseKnown, flagKnown, restZero, idleZero, collectZero}
+use Rattle.model.specs.Sound.{bestIslandZero, bestZero, seenKnown, fieldsSound}
 use Rattle.model.proofs.Board.Codec.{registerBytes, marked-by, register, recordBytes, station}
 use Rattle.model.proofs.Basics.Tests.{and-l, and-r, or-case, zeros-is, implies-use}
 use Rattle.model.proofs.Basics.Numbers.{Bytes, bytes-figure}
 use Rattle.model.proofs.Basics.Splices.{length-part}
-use Rattle.model.proofs.Basics.Parts.{listed, part-listed, part-join, part-whole, part-Bytes, part-zeros, zero-at}
+use Rattle.model.proofs.Basics.Parts.{listed, part-listed, part-join, part-whole, part-Bytes, part-zeros}
+use Rattle.model.proofs.Basics.Parts.{zero-at}
 use Rattle.model.proofs.Board.Good.{best-island-fact, seen-fact}
 
 -- ---- registers
@@ -32,25 +28,31 @@ register-parts r e =
     sym (part-whole r 8 e) ∙ part-join 0 4 4 r ∙ ap (λ (l : List ℕ). l ++ part 4 4 r) (part-listed 0 4 r (omega arith))
 
 module _ (marks islands : ℕ) (low : marks ≤ 2) (r : List ℕ) (e : length r ≡ 8) (bytes : Bytes r) where
-  filled-parts : (f : Flag) → byte r 0 ≡ flagNumber f → T (zeros (part 2 2 r)) → registerBytes (filled f (byte r 1) (figure (part 4 4 r))) ≡ r
+  filled-parts : (f : Flag) → byte r 0 ≡ flagNumber f → T (zeros (part 2 2 r))
+      → registerBytes (filled f (byte r 1) (figure (part 4 4 r))) ≡ r
   unfolding layRegister registerFields
   filled-parts f h z =
-      (λ i. sym h i ∷ byte r 1 ∷ sym (zero-at 2 2 r (omega arith) z 0 (lit≤ tt)) i ∷ sym (zero-at 2 2 r (omega arith) z 1 (lit≤ tt)) i
+      (λ i. sym h i ∷ byte r 1 ∷ sym (zero-at 2 2 r (omega arith) z 0 (lit≤ tt)) i
+      ∷ sym (zero-at 2 2 r (omega arith) z 1 (lit≤ tt)) i
       ∷ bytes-figure (part 4 4 r) (length-part 4 4 r (omega arith)) (part-Bytes 4 4 r bytes) i)
       ∙ sym (register-parts r e)
 
   at-mark : (h : ℕ) → byte r 0 ≡ h → T (registerSound marks islands r)
       → T (cond (eqb h 0) (zeros r) (leb h marks && ltb (byte r 1) islands && zeros (part 2 2 r)))
   unfolding registerSound
-  at-mark h q t = subst (λ (m : ℕ). T (cond (eqb m 0) (zeros r) (leb m marks && ltb (byte r 1) islands && zeros (part 2 2 r)))) q t
+  at-mark h q t =
+      subst (λ (m : ℕ). T (cond (eqb m 0) (zeros r) (leb m marks && ltb (byte r 1) islands && zeros (part 2 2 r)))) q t
 
   above-two : (k : ℕ) → byte r 0 ≡ suc (suc (suc k)) → T (registerSound marks islands r) → ⊥
   above-two k q t =
-      let s = subst (λ (m : Bool). T (cond m (zeros r) (leb (suc (suc (suc k))) marks && ltb (byte r 1) islands && zeros (part 2 2 r)))) (eqb·suc-zero (suc (suc k))) (at-mark (suc (suc (suc k))) q t) in
+      let s = subst (λ (m : Bool). T
+      (cond m (zeros r) (leb (suc (suc (suc k))) marks && ltb (byte r 1) islands && zeros (part 2 2 r))))
+      (eqb·suc-zero (suc (suc k))) (at-mark (suc (suc (suc k))) q t) in
       let l = leb→le (suc (suc (suc k))) marks (search (and-l, and-r)) in
       omega arith
 
-  marked : (h : ℕ) → byte r 0 ≡ h → T (registerSound marks islands r) → registerBytes (marked-by h (byte r 1) (figure (part 4 4 r))) ≡ r
+  marked : (h : ℕ) → byte r 0 ≡ h → T (registerSound marks islands r)
+      → registerBytes (marked-by h (byte r 1) (figure (part 4 4 r))) ≡ r
   unfolding flagOf layRegister registerFields figureBytes digits flagNumber
   marked zero q t = sym (zeros-is r (at-mark 0 q t) ∙ ap (λ (k : ℕ). replicate k 0) e)
   marked (suc zero) q t = filled-parts adopt q (let s = at-mark 1 q t in search (and-l, and-r))
@@ -64,7 +66,8 @@ module _ (marks islands : ℕ) (low : marks ≤ 2) (r : List ℕ) (e : length r 
 -- ---- records
 
 module _ (r : List ℕ) (e : length r ≡ 24) (bytes : Bytes r) where
-  pub record-parts : r ≡ (byte r 0 ∷ byte r 1 ∷ byte r 2 ∷ byte r 3 ∷ byte r 4 ∷ byte r 5 ∷ byte r 6 ∷ byte r 7 ∷ []) ++ part 8 4 r ++ part 12 4 r ++ part 16 4 r ++ part 20 4 r
+  pub record-parts : r ≡ (byte r 0 ∷ byte r 1 ∷ byte r 2 ∷ byte r 3 ∷ byte r 4 ∷ byte r 5 ∷ byte r 6 ∷ byte r 7 ∷ [])
+      ++ part 8 4 r ++ part 12 4 r ++ part 16 4 r ++ part 20 4 r
   unfolding listed
   record-parts =
       sym (part-whole r 24 e) ∙ part-join 0 20 4 r
@@ -79,12 +82,14 @@ module _ (r : List ℕ) (e : length r ≡ 24) (bytes : Bytes r) where
   figure-at at h = bytes-figure (part at 4 r) (length-part at 4 r (omega arith)) (part-Bytes at 4 r bytes)
 
   -- the fields of a record one by one
-  lay-parts : (phase p : ℕ) (a : Seen Figure) (flag : ℕ) → phase ≡ byte r 0 → p ≡ byte r 1 → seenNumber a ≡ byte r 3 → bestIsland a ≡ byte r 4
+  lay-parts : (phase p : ℕ) (a : Seen Figure) (flag : ℕ) → phase ≡ byte r 0 → p ≡ byte r 1 → seenNumber a ≡ byte r 3
+      → bestIsland a ≡ byte r 4
       → flag ≡ byte r 5 → figureBytes (bestFigure a) ≡ part 16 4 r → T (restZero (byte r 0) r)
       → layRecord (fields phase p (byte r 2) a flag (figure (part 8 4 r)) (figure (part 12 4 r))) ≡ r
   unfolding layRecord fields restZero
   lay-parts phase p a flag e0 e1 e3 e4 e5 e16 z =
-      (λ i. (e0 i ∷ e1 i ∷ byte r 2 ∷ e3 i ∷ e4 i ∷ e5 i ∷ six i ∷ seven i ∷ []) ++ figure-at 8 (lit≤ tt) i ++ figure-at 12 (lit≤ tt) i ++ e16 i ++ last i)
+      (λ i. (e0 i ∷ e1 i ∷ byte r 2 ∷ e3 i ∷ e4 i ∷ e5 i ∷ six i ∷ seven i ∷ []) ++ figure-at 8 (lit≤ tt) i
+      ++ figure-at 12 (lit≤ tt) i ++ e16 i ++ last i)
       ∙ sym record-parts
     where
       front : T (zeros (part 6 2 r))
@@ -114,7 +119,8 @@ best-island (suc zero) k y h = refl
 best-island (suc (suc zero)) k y h = refl
 best-island (suc (suc (suc g))) k y h = refl
 
-best-figure : (g k : ℕ) (y : Figure) (l : List ℕ) → figureBytes y ≡ l → (g ≡ 0 → l ≡ replicate 4 0) → figureBytes (bestFigure (seenOf g k y)) ≡ l
+best-figure : (g k : ℕ) (y : Figure) (l : List ℕ) → figureBytes y ≡ l → (g ≡ 0 → l ≡ replicate 4 0)
+    → figureBytes (bestFigure (seenOf g k y)) ≡ l
 unfolding seenOf bestFigure figureBytes digits
 best-figure zero k y l e h = sym (h refl)
 best-figure (suc zero) k y l e h = e
@@ -127,7 +133,8 @@ flag-byte zero t = absurd t
 flag-byte (suc zero) t = refl
 flag-byte (suc (suc k)) t =
     ⊎-elim (λ (s : T (eqb (suc (suc k)) 1)). absurd (omega (arith, eqb→eq (suc (suc k)) 1 s)))
-    (λ (s : T (eqb (suc (suc k)) 2)). sym (eqb→eq (suc (suc k)) 2 s)) (or-case (eqb (suc (suc k)) 1) (eqb (suc (suc k)) 2) t)
+    (λ (s : T (eqb (suc (suc k)) 2)). sym (eqb→eq (suc (suc k)) 2 s))
+    (or-case (eqb (suc (suc k)) 1) (eqb (suc (suc k)) 2) t)
 
 -- The clauses on zeros out of the conjunction, at a phase.
 module _ (n K phase : ℕ) (r : List ℕ) (t : T (fieldsSound n K phase r)) where
@@ -156,30 +163,40 @@ module _ (n K phase : ℕ) (r : List ℕ) (t : T (fieldsSound n K phase r)) wher
   best-zero-fact = search (and-l, and-r) depth 12
 
 -- a phase outside the collects
-resting-parts : (n K phase : ℕ) (r : List ℕ) (e : length r ≡ 24) (bytes : Bytes r) → phase ≡ byte r 0 → T (fieldsSound n K phase r)
+resting-parts : (n K phase : ℕ) (r : List ℕ) (e : length r ≡ 24) (bytes : Bytes r) → phase ≡ byte r 0
+    → T (fieldsSound n K phase r)
     → collecting phase r ≡ false → eqb phase 2 ≡ false → (flag : ℕ) → flag ≡ byte r 5
     → layRecord (fields phase 0 (byte r 2) nothing flag (figure (part 8 4 r)) (figure (part 12 4 r))) ≡ r
 unfolding seenNumber bestIsland bestFigure figureBytes digits collectZero bestIslandZero restZero
 resting-parts n K phase r e bytes h t c m flag ef =
-    lay-parts r e bytes phase 0 nothing flag h (sym (eqb→eq (byte r 1) 0 (search (and-l, and-r, zero-parts)))) (sym (eqb→eq (byte r 3) 0 (search (and-l, and-r, zero-parts))))
-    (sym (eqb→eq (byte r 4) 0 island)) ef (sym (part-zeros 16 4 r (omega arith) (search (and-l, and-r, zero-parts)))) (rest-fact n K phase r t)
+    lay-parts r e bytes phase 0 nothing flag h (sym (eqb→eq (byte r 1) 0 (search (and-l, and-r, zero-parts))))
+    (sym (eqb→eq (byte r 3) 0 (search (and-l, and-r, zero-parts))))
+    (sym (eqb→eq (byte r 4) 0 island)) ef (sym (part-zeros 16 4 r (omega arith) (search (and-l, and-r, zero-parts))))
+    (rest-fact n K phase r t)
   where
     zero-parts : T (eqb (byte r 1) 0 && eqb (byte r 3) 0 && zeros (part 16 4 r))
-    zero-parts = subst (λ (b : Bool). T (b || (eqb (byte r 1) 0 && eqb (byte r 3) 0 && zeros (part 16 4 r)))) c (collect-fact n K phase r t)
+    zero-parts =
+        subst (λ (b : Bool). T (b || (eqb (byte r 1) 0 && eqb (byte r 3) 0 && zeros (part 16 4 r)))) c
+        (collect-fact n K phase r t)
 
     island : T (eqb (byte r 4) 0)
     island = subst (λ (b : Bool). T (b || eqb (byte r 4) 0)) m (best-island-fact n K phase r t)
 
 -- a phase in a collect
-reading-parts : (n K phase : ℕ) (r : List ℕ) (e : length r ≡ 24) (bytes : Bytes r) → phase ≡ byte r 0 → T (fieldsSound n K phase r)
+reading-parts : (n K phase : ℕ) (r : List ℕ) (e : length r ≡ 24) (bytes : Bytes r) → phase ≡ byte r 0
+    → T (fieldsSound n K phase r)
     → byte r 3 ≤ 3 → (flag : ℕ) → flag ≡ byte r 5
-    → layRecord (fields phase (byte r 1) (byte r 2) (seenOf (byte r 3) (byte r 4) (figure (part 16 4 r))) flag (figure (part 8 4 r)) (figure (part 12 4 r))) ≡ r
+    → layRecord (fields phase (byte r 1) (byte r 2) (seenOf (byte r 3) (byte r 4) (figure (part 16 4 r))) flag
+    (figure (part 8 4 r)) (figure (part 12 4 r))) ≡ r
 unfolding bestZero restZero
 reading-parts n K phase r e bytes h t s flag ef =
     lay-parts r e bytes phase (byte r 1) (seenOf (byte r 3) (byte r 4) (figure (part 16 4 r))) flag h refl
-    (seen-number (byte r 3) (byte r 4) _ s) (best-island (byte r 3) (byte r 4) _ (λ z. eqb→eq (byte r 4) 0 (and-l (eqb (byte r 4) 0) (zeros (part 16 4 r)) (unseen z))))
+    (seen-number (byte r 3) (byte r 4) _ s)
+    (best-island (byte r 3) (byte r 4) _
+    (λ z. eqb→eq (byte r 4) 0 (and-l (eqb (byte r 4) 0) (zeros (part 16 4 r)) (unseen z))))
     ef
-    (best-figure (byte r 3) (byte r 4) _ (part 16 4 r) (bytes-figure (part 16 4 r) (length-part 16 4 r (omega arith)) (part-Bytes 16 4 r bytes))
+    (best-figure (byte r 3) (byte r 4) _ (part 16 4 r)
+    (bytes-figure (part 16 4 r) (length-part 16 4 r (omega arith)) (part-Bytes 16 4 r bytes))
     (λ z. part-zeros 16 4 r (omega arith) (and-r (eqb (byte r 4) 0) (zeros (part 16 4 r)) (unseen z))))
     (rest-fact n K phase r t)
   where
@@ -197,21 +214,32 @@ idle-form = refl
 
 -- by the phase
 module _ (n K : ℕ) (r : List ℕ) (e : length r ≡ 24) (bytes : Bytes r) where
-  phase-canon : (phase : ℕ) → phase ≡ byte r 0 → T (fieldsSound n K phase r) → recordBytes (ofPhase phase (readRecord r)) ≡ r
-  unfolding readRecord recordFields ofPhase writingOf readingOf writePhase flagByte flagKnown idleZero seenKnown implies phaseKnown collecting
+  phase-canon : (phase : ℕ) → phase ≡ byte r 0 → T (fieldsSound n K phase r)
+      → recordBytes (ofPhase phase (readRecord r)) ≡ r
+  unfolding readRecord recordFields ofPhase writingOf readingOf writePhase flagByte flagKnown idleZero seenKnown implies
+      phaseKnown collecting
   phase-canon zero h t = idle-form ∙ sym (zeros-is r (idle-fact n K 0 r t) ∙ ap (λ (k : ℕ). replicate k 0) e)
-  phase-canon (suc zero) h t = resting-parts n K 1 r e bytes h t refl refl 0 (sym (eqb→eq (byte r 5) 0 (flag-fact n K 1 r t)))
+  phase-canon (suc zero) h t =
+      resting-parts n K 1 r e bytes h t refl refl 0 (sym (eqb→eq (byte r 5) 0 (flag-fact n K 1 r t)))
   phase-canon (suc (suc zero)) h t =
-      reading-parts n K 2 r e bytes h t (omega (arith, leb→le (byte r 3) 1 (seen-fact n K 2 r t))) 0 (sym (eqb→eq (byte r 5) 0 (flag-fact n K 2 r t)))
-  phase-canon (suc (suc (suc zero))) h t = resting-parts n K 3 r e bytes h t refl refl 0 (sym (eqb→eq (byte r 5) 0 (flag-fact n K 3 r t)))
+      reading-parts n K 2 r e bytes h t (omega (arith, leb→le (byte r 3) 1 (seen-fact n K 2 r t))) 0
+      (sym (eqb→eq (byte r 5) 0 (flag-fact n K 2 r t)))
+  phase-canon (suc (suc (suc zero))) h t =
+      resting-parts n K 3 r e bytes h t refl refl 0 (sym (eqb→eq (byte r 5) 0 (flag-fact n K 3 r t)))
   phase-canon (suc (suc (suc (suc zero)))) h t =
-      reading-parts n K 4 r e bytes h t (omega (arith, leb→le (byte r 3) 2 (seen-fact n K 4 r t))) 0 (sym (eqb→eq (byte r 5) 0 (flag-fact n K 4 r t)))
-  phase-canon (suc (suc (suc (suc (suc zero))))) h t = resting-parts n K 5 r e bytes h t refl refl _ (flag-byte (byte r 5) (flag-fact n K 5 r t))
+      reading-parts n K 4 r e bytes h t (omega (arith, leb→le (byte r 3) 2 (seen-fact n K 4 r t))) 0
+      (sym (eqb→eq (byte r 5) 0 (flag-fact n K 4 r t)))
+  phase-canon (suc (suc (suc (suc (suc zero))))) h t =
+      resting-parts n K 5 r e bytes h t refl refl _ (flag-byte (byte r 5) (flag-fact n K 5 r t))
   phase-canon (suc (suc (suc (suc (suc (suc zero)))))) h t =
-      reading-parts n K 6 r e bytes h t (leb→le (byte r 3) 3 (seen-fact n K 6 r t)) _ (flag-byte (byte r 5) (flag-fact n K 6 r t))
-  phase-canon (suc (suc (suc (suc (suc (suc (suc zero))))))) h t = resting-parts n K 7 r e bytes h t refl refl 0 (sym (eqb→eq (byte r 5) 0 (flag-fact n K 7 r t)))
-  phase-canon (suc (suc (suc (suc (suc (suc (suc (suc zero)))))))) h t = resting-parts n K 8 r e bytes h t refl refl 0 (sym (eqb→eq (byte r 5) 0 (flag-fact n K 8 r t)))
-  phase-canon (suc (suc (suc (suc (suc (suc (suc (suc (suc k))))))))) h t = absurd (above-eight k (known-fact n K (suc (suc (suc (suc (suc (suc (suc (suc (suc k))))))))) r t))
+      reading-parts n K 6 r e bytes h t (leb→le (byte r 3) 3 (seen-fact n K 6 r t)) _
+      (flag-byte (byte r 5) (flag-fact n K 6 r t))
+  phase-canon (suc (suc (suc (suc (suc (suc (suc zero))))))) h t =
+      resting-parts n K 7 r e bytes h t refl refl 0 (sym (eqb→eq (byte r 5) 0 (flag-fact n K 7 r t)))
+  phase-canon (suc (suc (suc (suc (suc (suc (suc (suc zero)))))))) h t =
+      resting-parts n K 8 r e bytes h t refl refl 0 (sym (eqb→eq (byte r 5) 0 (flag-fact n K 8 r t)))
+  phase-canon (suc (suc (suc (suc (suc (suc (suc (suc (suc k))))))))) h t =
+      absurd (above-eight k (known-fact n K (suc (suc (suc (suc (suc (suc (suc (suc (suc k))))))))) r t))
 
   pub bytes-station : T (fieldsSound n K (byte r 0) r) → recordBytes (station r) ≡ r
   unfolding recordValue readRecord

@@ -1,18 +1,15 @@
 -- Registers and records as bytes: their lengths, and decoding after encoding is the identity on 32-bit figures.
 -- Relies on the layout and on Numbers; the laws on a board after a write rely on it.
-use mathlib.Core.Path.{_≡_, refl, ap}
-use mathlib.Core.List.{List}
-use Prim.Native.Nat.{ℕ, zero, suc}
-use lib.ListN.{length}
-use mir.Syntax.{w32}
-use mir.Val.{SFits}
-use Rattle.model.specs.Bytes.{digits, part}
+use Rattle.model.proofs.Kit.{_≡_, refl, ap, _∙_, List, [], _∷_, ℕ, zero, suc, lit<, length, w32, SFits}
+use Rattle.model.specs.Bytes.{number, digits, part}
 use Rattle.model.specs.Figure.{Figure, figure, figureBytes}
 use Rattle.model.specs.Listing.{adopt, commit, turnM, turnA, turnB, first, second, third, Register, empty, filled}
-use Rattle.model.specs.Listing.{Seen, nothing, seen, Stage, writing, reading, has-decided, is-spent, Station, idle, active}
-use Rattle.model.specs.Listing.{flagOf, flagNumber}
-use Rattle.model.specs.Layout.{layRegister, readRegister, registerFields, registerValue, seenNumber, bestIsland, bestFigure, seenOf, writePhase, flagByte}
-use Rattle.model.specs.Layout.{layRecord, readRecord, fields, recordFields, recordValue, writingOf, readingOf, ofPhase}
+use Rattle.model.specs.Listing.{Seen, nothing, seen, Stage, writing, reading, has-decided, is-spent, Station}
+use Rattle.model.specs.Listing.{idle, active, flagOf, flagNumber}
+use Rattle.model.specs.Layout.{layRegister, readRegister, registerFields, registerValue, seenNumber, bestIsland}
+use Rattle.model.specs.Layout.{bestFigure, seenOf, writePhase, flagByte, changed, proposalIs, carriedIs, bestIs}
+use Rattle.model.specs.Layout.{layRecord, readRecord, fields, recordFields, recordValue, writingOf, readingOf}
+use Rattle.model.specs.Layout.{ofPhase}
 use Rattle.model.proofs.Basics.Numbers.{figure-fits, figure-bytes}
 
 -- a register and a station's record as bytes, and back
@@ -77,28 +74,54 @@ pub length-record : (s : Station Figure) → length (recordBytes s) ≡ 24
 unfolding layRecord figureBytes digits
 length-record s = refl
 
--- what the collect has seen survives its three fields
-seen-fields : (a : Seen Figure) → FitsSeen a → seenOf (seenNumber a) (bestIsland a) (figure (figureBytes (bestFigure a))) ≡ a
-unfolding seenOf seenNumber bestIsland bestFigure FitsSeen
-seen-fields nothing h = refl
-seen-fields (seen first k y) h = ap (seen first k) (bytes-Fits y h)
-seen-fields (seen second k y) h = ap (seen second k) (bytes-Fits y h)
-seen-fields (seen third k y) h = ap (seen third k) (bytes-Fits y h)
+-- ---- a value survives its fields
+
+pub seen-back : (a : Seen Figure) → seenOf (seenNumber a) (bestIsland a) (bestFigure a) ≡ a
+unfolding seenOf seenNumber bestIsland bestFigure
+seen-back nothing = refl
+seen-back (seen first k y) = refl
+seen-back (seen second k y) = refl
+seen-back (seen third k y) = refl
+
+station-back : (s : Station Figure) → recordValue (recordFields s) ≡ s
+unfolding recordValue ofPhase writingOf readingOf recordFields fields writePhase flagByte flagNumber flagOf
+station-back idle = refl
+station-back (active v (writing turnM c x)) = refl
+station-back (active v (writing turnA c x)) = refl
+station-back (active v (writing (turnB adopt) c x)) = refl
+station-back (active v (writing (turnB commit) c x)) = refl
+station-back (active v (reading turnM c x p a)) =
+    ap (λ (a : Seen Figure). active v (reading turnM c x p a)) (seen-back a)
+station-back (active v (reading turnA c x p a)) =
+    ap (λ (a : Seen Figure). active v (reading turnA c x p a)) (seen-back a)
+station-back (active v (reading (turnB adopt) c x p a)) =
+    ap (λ (a : Seen Figure). active v (reading (turnB adopt) c x p a)) (seen-back a)
+station-back (active v (reading (turnB commit) c x p a)) =
+    ap (λ (a : Seen Figure). active v (reading (turnB commit) c x p a)) (seen-back a)
+station-back (active v (has-decided c x)) = refl
+station-back (active v (is-spent c x)) = refl
+
+-- ---- and its fields survive their bytes
+
+best-back : (a : Seen Figure) → FitsSeen a → figure (figureBytes (bestFigure a)) ≡ bestFigure a
+unfolding bestFigure FitsSeen figure figureBytes digits number
+best-back nothing h = refl
+best-back (seen g k y) h = bytes-Fits y h
+
+fields-back : (phase p c : ℕ) (a : Seen Figure) (flag : ℕ) (v x : Figure) → Fits v → Fits x → FitsSeen a
+    → readRecord (layRecord (fields phase p c a flag v x)) ≡ fields phase p c a flag v x
+unfolding readRecord layRecord fields changed part figureBytes digits
+fields-back phase p c a flag v x hv hx ha =
+    λ i. changed (proposalIs (bytes-Fits v hv i) ∷ carriedIs (bytes-Fits x hx i) ∷ bestIs (best-back a ha i) ∷ [])
+    (fields phase p c a flag v x)
+
+pub record-back : (s : Station Figure) → FitsStation s → readRecord (recordBytes s) ≡ recordFields s
+unfolding recordFields FitsStation FitsStage FitsSeen Fits
+record-back idle h = fields-back _ _ _ nothing _ _ _ (record { sfits = lit< tt }) (record { sfits = lit< tt }) tt
+record-back (active v (writing t c x)) h = fields-back _ _ _ nothing _ _ _ (h .0) (h .1) tt
+record-back (active v (reading t c x p a)) h = fields-back _ _ _ a _ _ _ (h .0) (h .1 .0) (h .1 .1)
+record-back (active v (has-decided c x)) h = fields-back _ _ _ nothing _ _ _ (h .0) (h .1) tt
+record-back (active v (is-spent c x)) h = fields-back _ _ _ nothing _ _ _ (h .0) (h .1) tt
 
 pub station-bytes : (s : Station Figure) → FitsStation s → station (recordBytes s) ≡ s
-unfolding recordValue readRecord ofPhase writingOf readingOf recordFields fields layRecord writePhase flagByte flagNumber flagOf part figureBytes digits FitsStation FitsStage
-station-bytes idle h = refl
-station-bytes (active v (writing turnM c x)) h = λ i. active (bytes-Fits v (h .0) i) (writing turnM c (bytes-Fits x (h .1) i))
-station-bytes (active v (writing turnA c x)) h = λ i. active (bytes-Fits v (h .0) i) (writing turnA c (bytes-Fits x (h .1) i))
-station-bytes (active v (writing (turnB adopt) c x)) h = λ i. active (bytes-Fits v (h .0) i) (writing (turnB adopt) c (bytes-Fits x (h .1) i))
-station-bytes (active v (writing (turnB commit) c x)) h = λ i. active (bytes-Fits v (h .0) i) (writing (turnB commit) c (bytes-Fits x (h .1) i))
-station-bytes (active v (reading turnM c x p a)) h =
-    λ i. active (bytes-Fits v (h .0) i) (reading turnM c (bytes-Fits x (h .1 .0) i) p (seen-fields a (h .1 .1) i))
-station-bytes (active v (reading turnA c x p a)) h =
-    λ i. active (bytes-Fits v (h .0) i) (reading turnA c (bytes-Fits x (h .1 .0) i) p (seen-fields a (h .1 .1) i))
-station-bytes (active v (reading (turnB adopt) c x p a)) h =
-    λ i. active (bytes-Fits v (h .0) i) (reading (turnB adopt) c (bytes-Fits x (h .1 .0) i) p (seen-fields a (h .1 .1) i))
-station-bytes (active v (reading (turnB commit) c x p a)) h =
-    λ i. active (bytes-Fits v (h .0) i) (reading (turnB commit) c (bytes-Fits x (h .1 .0) i) p (seen-fields a (h .1 .1) i))
-station-bytes (active v (has-decided c x)) h = λ i. active (bytes-Fits v (h .0) i) (has-decided c (bytes-Fits x (h .1) i))
-station-bytes (active v (is-spent c x)) h = λ i. active (bytes-Fits v (h .0) i) (is-spent c (bytes-Fits x (h .1) i))
+station-bytes s h = ap recordValue (record-back s h) ∙ station-back s

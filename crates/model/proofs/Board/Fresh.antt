@@ -1,16 +1,15 @@
 -- A fresh board is sound: every part of it past n and K is zero.
 -- Relies on Splices, Places, Keeps; the laws of laying rely on it.
-use mathlib.Core.Path.{_≡_, sym, _∙_, subst⁻¹}
-use mathlib.Core.List.{List}
-use Prim.Native.Nat.{ℕ, zero, suc, _+_, _*_, _-_, _≤_, _<_}
-use native.Mathlib.Omega.{arith}
-use lib.Dec.{T, lit≤}
-use lib.ListN.{length, replicate, length-replicate, getD-replicate}
+use Rattle.model.proofs.Kit.{_≡_, sym, _∙_, List, ℕ, zero, suc, _+_, _-_, _≤_, _<_, _*_, T, lit≤, length}
+use Rattle.model.proofs.Kit.{replicate, length-replicate, arith}
+use mathlib.Core.Path.{subst⁻¹}
+use lib.ListN.{getD-replicate}
 use lib.Seq.{ext-getD}
 use Rattle.model.specs.Bytes.{byte, part, zeros, digits}
 use Rattle.model.specs.Figure.{figureBytes}
 use Rattle.model.specs.Listing.{idle, Array}
-use Rattle.model.specs.Layout.{boardLength, registerAt, recordAt, freshBoard, fields, recordFields, layRecord, seenNumber, bestIsland, bestFigure, recordOf}
+use Rattle.model.specs.Layout.{boardLength, registerAt, recordAt, freshBoard, fields, recordFields, layRecord}
+use Rattle.model.specs.Layout.{seenNumber, bestIsland, bestFigure, recordOf}
 use Rattle.model.specs.Sound.{headSound, registerSound, ownWritten, ownPassed, recordSound}
 use Rattle.model.proofs.Basics.Tests.{zeros-replicate}
 use Rattle.model.proofs.Basics.Splices.{length-part, byte-part}
@@ -38,7 +37,8 @@ module _ (n K : ℕ) where
       ext-getD 0 (part at len (freshBoard n K)) (replicate len 0) (size ∙ sym (length-replicate len 0))
       (λ (i : ℕ) (k : i < length (part at len (freshBoard n K))).
       let j : i < len = omega (arith, size) in
-      byte-part at len (freshBoard n K) i j ∙ byte-fresh (at + i) (omega arith) (omega arith) ∙ sym (getD-replicate len i 0 0 j))
+      byte-part at len (freshBoard n K) i j ∙ byte-fresh (at + i) (omega arith) (omega arith)
+      ∙ sym (getD-replicate len i 0 0 j))
     where
       size : length (part at len (freshBoard n K)) ≡ len
       size = length-part at len (freshBoard n K) (omega (arith, length-fresh))
@@ -63,8 +63,12 @@ module _ (n K : ℕ) where
   unfolding headSound FitsStation
   fresh-sound hn hK = record {
     len = length-fresh;
-    head = subst⁻¹ (λ (l : List ℕ). T (zeros l)) (part-fresh 2 6 (lit≤ tt) (omega (arith, record-inside n K 0 hn, head-before-records n K 0))) (zeros-replicate 6);
+    head =
+        subst⁻¹ (λ (l : List ℕ). T (zeros l))
+        (part-fresh 2 6 (lit≤ tt) (omega (arith, record-inside n K 0 hn, head-before-records n K 0)))
+        (zeros-replicate 6);
     registers = λ a h j l. subst⁻¹ (λ (r : List ℕ). T (registerTest K a r)) (fresh-empty a h j l) (empty-sound a);
     records = λ j h.
-        subst⁻¹ (λ (r : List ℕ). T (recordSound n K j (freshBoard n K) r)) (fresh-idle j h) (record-sound n K hn hK j (freshBoard n K) idle tt (idle-sound j));
+        subst⁻¹ (λ (r : List ℕ). T (recordSound n K j (freshBoard n K) r)) (fresh-idle j h)
+        (record-sound n K hn hK j (freshBoard n K) idle tt (idle-sound j));
   }

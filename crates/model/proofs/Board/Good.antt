@@ -1,21 +1,16 @@
--- What the tests of a record's fields say of the value that it decodes to, and that such a value passes them when encoded.
+-- What the tests of a record's fields say of the value that it decodes to, which passes them when encoded.
 -- Relies on soundness's clauses and the codec; that the calls keep a board sound relies on it.
-use mathlib.Core.Path.{_≡_, refl}
-use mathlib.Core.Bool.{true, _||_}
-use mathlib.Core.List.{List}
-use Prim.Native.Nat.{ℕ, zero, suc, _≤_, _<_}
-use native.Mathlib.Omega.{arith}
-use lib.Dec.{T, eqb, leb→le, ltb→lt, eqb→eq}
-use borrow.Author.Tests.{lt-ltb}
+use Rattle.model.proofs.Kit.{_≡_, refl, true, _||_, List, ℕ, zero, suc, _≤_, _<_, lt-ltb, eqb, leb→le, T, eqb→eq}
+use Rattle.model.proofs.Kit.{ltb→lt, arith}
 use Rattle.model.specs.Bytes.{byte, part, zeros, implies, digits}
 use Rattle.model.specs.Figure.{Figure, figureBytes}
-use Rattle.model.specs.Listing.{Flag, adopt, commit, Turn, turnM, turnA, turnB, first, second, third}
-use Rattle.model.specs.Listing.{Seen, nothing, seen, Stage, writing, reading, has-decided, is-spent, Station, idle, active}
-use Rattle.model.specs.Listing.{flagNumber}
-use Rattle.model.specs.Layout.{seenNumber, bestIsland, bestFigure, seenOf, writePhase, flagByte, layRecord, fields, recordFields}
-use Rattle.model.specs.Layout.{readRecord, writingOf, readingOf, ofPhase}
-use Rattle.model.specs.Sound.{collecting, phaseKnown, positionInside, islandInside, bestInside, flagKnown, restZero, idleZero, collectZero}
-use Rattle.model.specs.Sound.{bestIslandZero, bestZero, seenKnown, fieldsSound}
+use Rattle.model.specs.Listing.{Flag, adopt, commit, Turn, turnM, turnA, turnB, first, second, third, Seen}
+use Rattle.model.specs.Listing.{nothing, seen, Stage, writing, reading, has-decided, is-spent, Station, idle}
+use Rattle.model.specs.Listing.{active, flagNumber}
+use Rattle.model.specs.Layout.{seenNumber, bestIsland, bestFigure, seenOf, writePhase, flagByte, layRecord}
+use Rattle.model.specs.Layout.{fields, recordFields, readRecord, writingOf, readingOf, ofPhase}
+use Rattle.model.specs.Sound.{collecting, phaseKnown, positionInside, islandInside, bestInside, flagKnown}
+use Rattle.model.specs.Sound.{restZero, idleZero, collectZero, bestIslandZero, bestZero, seenKnown, fieldsSound}
 use Rattle.model.proofs.Board.Codec.{recordBytes}
 use Rattle.model.proofs.Basics.Tests.{and-l, and-r}
 
@@ -42,11 +37,11 @@ GoodStation n K (active v s) = GoodStage n K s
 
 -- The clauses that bound fields, one by one, out of their conjunction.
 module _ (n K phase : ℕ) (r : List ℕ) (t : T (fieldsSound n K phase r)) where
-  position-fact : byte r 1 < n
+  pub position-fact : byte r 1 < n
   unfolding fieldsSound positionInside
   position-fact = ltb→lt (byte r 1) n (search (and-l, and-r) depth 12)
 
-  island-fact : byte r 2 < K
+  pub island-fact : byte r 2 < K
   unfolding fieldsSound islandInside
   island-fact = ltb→lt (byte r 2) K (search (and-l, and-r) depth 12)
 
@@ -84,18 +79,31 @@ seen-b K f (suc (suc zero)) k y e = e
 seen-b K f (suc (suc (suc g))) k y e = e
 
 -- a record whose fields pass decodes to a good station
-pub fields-good : (n K phase : ℕ) (r : List ℕ) → T (fieldsSound n K phase r) → GoodStation n K (ofPhase phase (readRecord r))
+pub fields-good : (n K phase : ℕ) (r : List ℕ) → T (fieldsSound n K phase r)
+    → GoodStation n K (ofPhase phase (readRecord r))
 unfolding GoodStation GoodStage readRecord ofPhase writingOf readingOf bestIslandZero seenKnown
 fields-good n K zero r t = tt
 fields-good n K (suc zero) r t = island-fact n K _ r t
-fields-good n K (suc (suc zero)) r t =
-    (island-fact n K _ r t, position-fact n K _ r t, seen-m K (byte r 3) (byte r 4) _ (leb→le _ _ (seen-fact n K 2 r t)) (best-fact n K _ r t))
+fields-good n K (suc (suc zero)) r t = (
+  island-fact n K _ r t,
+  position-fact n K _ r t,
+  seen-m K (byte r 3) (byte r 4) _ (leb→le _ _ (seen-fact n K 2 r t))
+      (best-fact n K _ r t),
+)
 fields-good n K (suc (suc (suc zero))) r t = island-fact n K _ r t
-fields-good n K (suc (suc (suc (suc zero)))) r t =
-    (island-fact n K _ r t, position-fact n K _ r t, seen-a K (byte r 3) (byte r 4) _ (leb→le _ _ (seen-fact n K 4 r t)) (eqb→eq _ _ (best-island-fact n K 4 r t)))
+fields-good n K (suc (suc (suc (suc zero)))) r t = (
+  island-fact n K _ r t,
+  position-fact n K _ r t,
+  seen-a K (byte r 3) (byte r 4) _ (leb→le _ _ (seen-fact n K 4 r t))
+      (eqb→eq _ _ (best-island-fact n K 4 r t)),
+)
 fields-good n K (suc (suc (suc (suc (suc zero))))) r t = island-fact n K _ r t
-fields-good n K (suc (suc (suc (suc (suc (suc zero)))))) r t =
-    (island-fact n K _ r t, position-fact n K _ r t, seen-b K _ (byte r 3) (byte r 4) _ (eqb→eq _ _ (best-island-fact n K 6 r t)))
+fields-good n K (suc (suc (suc (suc (suc (suc zero)))))) r t = (
+  island-fact n K _ r t,
+  position-fact n K _ r t,
+  seen-b K _ (byte r 3) (byte r 4) _
+      (eqb→eq _ _ (best-island-fact n K 6 r t)),
+)
 fields-good n K (suc (suc (suc (suc (suc (suc (suc zero))))))) r t = island-fact n K _ r t
 fields-good n K (suc (suc (suc (suc (suc (suc (suc (suc h)))))))) r t = island-fact n K _ r t
 
@@ -107,22 +115,34 @@ flag-known commit = refl
 -- and back: a good station encodes to a record whose fields pass
 pub good-fields : (n K : ℕ) → 0 < n → 0 < K → (s : Station Figure) → GoodStation n K s
     → fieldsSound n K (byte (recordBytes s) 0) (recordBytes s) ≡ true
-unfolding GoodStation GoodStage GoodSeen fieldsSound phaseKnown positionInside islandInside bestInside flagKnown restZero idleZero collectZero bestIslandZero bestZero seenKnown collecting implies zeros part recordFields fields layRecord writePhase flagByte seenNumber bestIsland bestFigure figureBytes digits
+unfolding GoodStation GoodStage GoodSeen fieldsSound phaseKnown positionInside islandInside bestInside flagKnown
+    restZero idleZero collectZero bestIslandZero bestZero seenKnown collecting implies zeros part recordFields fields
+    layRecord writePhase flagByte seenNumber bestIsland bestFigure figureBytes digits
 good-fields n K hn hK idle h = simp (lt-ltb 0 n hn, lt-ltb 0 K hK)
 good-fields n K hn hK (active v (writing turnM c x)) h = simp (lt-ltb 0 n hn, lt-ltb 0 K hK, lt-ltb c K h)
 good-fields n K hn hK (active v (writing turnA c x)) h = simp (lt-ltb 0 n hn, lt-ltb 0 K hK, lt-ltb c K h)
-good-fields n K hn hK (active v (writing (turnB f) c x)) h = simp (lt-ltb 0 n hn, lt-ltb 0 K hK, lt-ltb c K h, flag-known f)
+good-fields n K hn hK (active v (writing (turnB f) c x)) h =
+    simp (lt-ltb 0 n hn, lt-ltb 0 K hK, lt-ltb c K h, flag-known f)
 good-fields n K hn hK (active v (has-decided c x)) h = simp (lt-ltb 0 n hn, lt-ltb 0 K hK, lt-ltb c K h)
 good-fields n K hn hK (active v (is-spent c x)) h = simp (lt-ltb 0 n hn, lt-ltb 0 K hK, lt-ltb c K h)
-good-fields n K hn hK (active v (reading turnM c x p nothing)) h = simp (lt-ltb p n (h .1), lt-ltb 0 K hK, lt-ltb c K (h .0))
-good-fields n K hn hK (active v (reading turnM c x p (seen first k y))) h = simp (lt-ltb p n (h .1), lt-ltb k K (h .2), lt-ltb c K (h .0))
+good-fields n K hn hK (active v (reading turnM c x p nothing)) h =
+    simp (lt-ltb p n (h .1), lt-ltb 0 K hK, lt-ltb c K (h .0))
+good-fields n K hn hK (active v (reading turnM c x p (seen first k y))) h =
+    simp (lt-ltb p n (h .1), lt-ltb k K (h .2), lt-ltb c K (h .0))
 good-fields n K hn hK (active v (reading turnM c x p (seen second k y))) h = absurd (h .2)
 good-fields n K hn hK (active v (reading turnM c x p (seen third k y))) h = absurd (h .2)
-good-fields n K hn hK (active v (reading turnA c x p nothing)) h = simp (lt-ltb p n (h .1), lt-ltb 0 K hK, lt-ltb c K (h .0))
-good-fields n K hn hK (active v (reading turnA c x p (seen first k y))) h = simp (h .2, lt-ltb p n (h .1), lt-ltb 0 K hK, lt-ltb c K (h .0))
-good-fields n K hn hK (active v (reading turnA c x p (seen second k y))) h = simp (h .2, lt-ltb p n (h .1), lt-ltb 0 K hK, lt-ltb c K (h .0))
+good-fields n K hn hK (active v (reading turnA c x p nothing)) h =
+    simp (lt-ltb p n (h .1), lt-ltb 0 K hK, lt-ltb c K (h .0))
+good-fields n K hn hK (active v (reading turnA c x p (seen first k y))) h =
+    simp (h .2, lt-ltb p n (h .1), lt-ltb 0 K hK, lt-ltb c K (h .0))
+good-fields n K hn hK (active v (reading turnA c x p (seen second k y))) h =
+    simp (h .2, lt-ltb p n (h .1), lt-ltb 0 K hK, lt-ltb c K (h .0))
 good-fields n K hn hK (active v (reading turnA c x p (seen third k y))) h = absurd (h .2)
-good-fields n K hn hK (active v (reading (turnB f) c x p nothing)) h = simp (flag-known f, lt-ltb p n (h .1), lt-ltb 0 K hK, lt-ltb c K (h .0))
-good-fields n K hn hK (active v (reading (turnB f) c x p (seen first k y))) h = simp (flag-known f, h .2, lt-ltb p n (h .1), lt-ltb 0 K hK, lt-ltb c K (h .0))
-good-fields n K hn hK (active v (reading (turnB f) c x p (seen second k y))) h = simp (flag-known f, h .2, lt-ltb p n (h .1), lt-ltb 0 K hK, lt-ltb c K (h .0))
-good-fields n K hn hK (active v (reading (turnB f) c x p (seen third k y))) h = simp (flag-known f, h .2, lt-ltb p n (h .1), lt-ltb 0 K hK, lt-ltb c K (h .0))
+good-fields n K hn hK (active v (reading (turnB f) c x p nothing)) h =
+    simp (flag-known f, lt-ltb p n (h .1), lt-ltb 0 K hK, lt-ltb c K (h .0))
+good-fields n K hn hK (active v (reading (turnB f) c x p (seen first k y))) h =
+    simp (flag-known f, h .2, lt-ltb p n (h .1), lt-ltb 0 K hK, lt-ltb c K (h .0))
+good-fields n K hn hK (active v (reading (turnB f) c x p (seen second k y))) h =
+    simp (flag-known f, h .2, lt-ltb p n (h .1), lt-ltb 0 K hK, lt-ltb c K (h .0))
+good-fields n K hn hK (active v (reading (turnB f) c x p (seen third k y))) h =
+    simp (flag-known f, h .2, lt-ltb p n (h .1), lt-ltb 0 K hK, lt-ltb c K (h .0))

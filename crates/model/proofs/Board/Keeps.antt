@@ -1,30 +1,31 @@
 -- What changes on a board keeps it sound: one register of a station, then that station's record.
 -- Relies on Boards and Values; that the calls keep a board sound relies on it.
-use mathlib.Core.Path.{_≡_, refl, sym, ap, subst, subst⁻¹}
-use mathlib.Core.Bool.{_&&_}
-use mathlib.Core.List.{List}
-use mathlib.Core.Option.{some}
-use Prim.Native.Nat.{ℕ, _<_}
-use native.Mathlib.Decide.{ℕ-discrete}
-use native.Mathlib.Omega.{arith}
-use lib.Dec.{T, lit≤}
+use Rattle.model.proofs.Kit.{_≡_, refl, sym, ap, subst, _&&_, List, some, ℕ, _<_, T, lit≤, ℕ-discrete, arith}
+use mathlib.Core.Path.{subst⁻¹}
 use Rattle.model.specs.Bytes.{byte, zeros}
 use Rattle.model.specs.Figure.{Figure}
-use Rattle.model.specs.Listing.{Register, writing, reading, has-decided, is-spent, Station, idle, active, Array, array, entry}
+use Rattle.model.specs.Listing.{Register, writing, reading, has-decided, is-spent, Station, idle, active, Array}
+use Rattle.model.specs.Listing.{array, entry}
 use Rattle.model.specs.Layout.{readRecord, recordValue, registerOf, recordOf}
 use Rattle.model.specs.Sound.{headSound, ownWritten, ownPassed, sameRegister, fieldsSound, recordSound}
 use Rattle.model.specs.Calls.{putStation, putRegister}
 use Rattle.model.proofs.Basics.Tests.{and-l, and-r, and-i, true-T}
 use Rattle.model.proofs.Board.Places.{InBoard, same-place}
 use Rattle.model.proofs.Board.Codec.{registerBytes, recordBytes, register, station, FitsStation, station-bytes}
-use Rattle.model.proofs.Board.Boards.{registerPart, station-length, station-before, station-same, station-other, station-register}
-use Rattle.model.proofs.Board.Boards.{register-length, register-before, register-same, register-other, register-record}
+use Rattle.model.proofs.Board.Boards.{registerPart, station-length, station-before, station-same, station-other}
+use Rattle.model.proofs.Board.Boards.{station-register, register-length, register-before, register-same}
+use Rattle.model.proofs.Board.Boards.{register-other, register-record}
 use Rattle.model.proofs.Board.Good.{GoodStation, GoodStage, fields-good, good-fields}
 use Rattle.model.proofs.Board.SoundFacts.{registerTest, SoundBoard, SoundBut}
 use Rattle.model.proofs.Board.Values.{array-inside, SoundStation}
 
 pub sound-but : (i n K : ℕ) (b : List ℕ) → SoundBoard n K b → SoundBut i n K b
-sound-but i n K b s = record { len = s .len; head = s .head; registers = s .registers; others = λ j h f. s .records j h }
+sound-but i n K b s = record {
+  len = s .len;
+  head = s .head;
+  registers = s .registers;
+  others = λ j h f. s .records j h;
+}
 
 -- The clause on a station's own register looks at no register but that one.
 own-written-as : (n K j : ℕ) (b d : List ℕ) → ((a : Array) → InBoard K a → registerPart n a j d ≡ registerPart n a j b)
@@ -44,18 +45,21 @@ unfolding recordSound recordValue readRecord
 record-as n K j b d r e t =
     and-i (fieldsSound n K (byte r 0) r && ownWritten n j d (station r)) (ownPassed j (station r))
     (and-i (fieldsSound n K (byte r 0) r) (ownWritten n j d (station r)) fields
-    (subst T (sym (own-written-as n K j b d e (station r) (fields-good n K (byte r 0) r fields))) (search (and-l, and-r))))
+    (subst T (sym (own-written-as n K j b d e (station r) (fields-good n K (byte r 0) r fields)))
+    (search (and-l, and-r))))
     (and-r (fieldsSound n K (byte r 0) r && ownWritten n j b (station r)) (ownPassed j (station r)) t)
   where
     fields : T (fieldsSound n K (byte r 0) r)
     fields = search (and-l, and-r)
 
 -- One register of station index i is put in.
-module _ (i n K : ℕ) (b : List ℕ) (s : SoundBut i n K b) (a : Array) (inside : InBoard K a) (own : i < n) (r : Register Figure) where
+module _ (i n K : ℕ) (b : List ℕ) (s : SoundBut i n K b) (a : Array) (inside : InBoard K a) (own : i < n)
+    (r : Register Figure) where
   after : List ℕ
   after = putRegister n a i (some r) b
 
-  register-at : T (registerTest K a (registerBytes r)) → (c : Array) → InBoard K c → (j : ℕ) → j < n → T (registerTest K c (registerPart n c j after))
+  register-at : T (registerTest K a (registerBytes r)) → (c : Array) → InBoard K c → (j : ℕ) → j < n
+      → T (registerTest K c (registerPart n c j after))
   unfolding after
   register-at t c h j l = go (same-place c j a i)
     where
@@ -64,34 +68,42 @@ module _ (i n K : ℕ) (b : List ℕ) (s : SoundBut i n K b) (a : Array) (inside
           subst⁻¹ (λ (d : Array). T (registerTest K d (registerPart n d j (putRegister n a i (some r) b)))) (e .0)
           (subst⁻¹ (λ (k : ℕ). T (registerTest K a (registerPart n a k (putRegister n a i (some r) b)))) (e .1)
           (subst⁻¹ (λ (l : List ℕ). T (registerTest K a l)) (register-same n K b (s .len) a inside i own r) t))
-      go (no f) = subst⁻¹ (λ (l : List ℕ). T (registerTest K c l)) (register-other n K b (s .len) a inside i own r c j h l f) (s .registers c h j l)
+      go (no f) =
+          subst⁻¹ (λ (l : List ℕ). T (registerTest K c l)) (register-other n K b (s .len) a inside i own r c j h l f)
+          (s .registers c h j l)
 
   pub register-keeps : T (registerTest K a (registerBytes r)) → SoundBut i n K (putRegister n a i (some r) b)
   unfolding after headSound
   register-keeps t = record {
     len = register-length n K b (s .len) a inside i own r;
-    head = subst⁻¹ (λ (l : List ℕ). T (zeros l)) (register-before n K b (s .len) a inside i own r 2 6 (lit≤ tt)) (s .head);
+    head =
+        subst⁻¹ (λ (l : List ℕ). T (zeros l)) (register-before n K b (s .len) a inside i own r 2 6 (lit≤ tt)) (s .head);
     registers = register-at t;
     others = λ j h f.
         record-as n K j b (putRegister n a i (some r) b) (recordOf n K j (putRegister n a i (some r) b))
         (λ c l. register-other n K b (s .len) a inside i own r c j l h (λ q. f (sym (q .1))))
-        (subst⁻¹ (λ (l : List ℕ). T (recordSound n K j b l)) (register-record n K b (s .len) a inside i own r j h) (s .others j h f));
+        (subst⁻¹ (λ (l : List ℕ). T (recordSound n K j b l)) (register-record n K b (s .len) a inside i own r j h)
+        (s .others j h f));
   }
 
 -- A good station with its own clauses encodes to a sound record.
-pub record-sound : (n K : ℕ) → 0 < n → 0 < K → (i : ℕ) (b : List ℕ) (s : Station Figure) → FitsStation s → SoundStation n K i b s
+pub record-sound : (n K : ℕ) → 0 < n → 0 < K → (i : ℕ) (b : List ℕ) (s : Station Figure) → FitsStation s
+    → SoundStation n K i b s
     → T (recordSound n K i b (recordBytes s))
 unfolding recordSound
 record-sound n K hn hK i b s fits g =
-    and-i (fieldsSound n K (byte (recordBytes s) 0) (recordBytes s) && ownWritten n i b (station (recordBytes s))) (ownPassed i (station (recordBytes s)))
+    and-i (fieldsSound n K (byte (recordBytes s) 0) (recordBytes s) && ownWritten n i b (station (recordBytes s)))
+    (ownPassed i (station (recordBytes s)))
     (and-i (fieldsSound n K (byte (recordBytes s) 0) (recordBytes s)) (ownWritten n i b (station (recordBytes s)))
     (true-T _ (good-fields n K hn hK s (g .good)))
     (subst⁻¹ (λ (z : Station Figure). T (ownWritten n i b z)) (station-bytes s fits) (g .written)))
     (subst⁻¹ (λ (z : Station Figure). T (ownPassed i z)) (station-bytes s fits) (g .passed))
 
 -- The record of station index i is put in.
-module _ (i n K : ℕ) (b : List ℕ) (q : SoundBut i n K b) (own : i < n) (hK : 0 < K) (s : Station Figure) (fits : FitsStation s) (g : SoundStation n K i b s) where
-  own-registers : (j : ℕ) → j < n → (a : Array) → InBoard K a → registerPart n a j (putStation n K i s b) ≡ registerPart n a j b
+module _ (i n K : ℕ) (b : List ℕ) (q : SoundBut i n K b) (own : i < n) (hK : 0 < K) (s : Station Figure)
+    (fits : FitsStation s) (g : SoundStation n K i b s) where
+  own-registers : (j : ℕ) → j < n → (a : Array) → InBoard K a
+      → registerPart n a j (putStation n K i s b) ≡ registerPart n a j b
   own-registers j h a l = station-register n K b (q .len) i own s a j l h
 
   record-at : (j : ℕ) → j < n → T (recordSound n K j b (recordOf n K j (putStation n K i s b)))
@@ -100,14 +112,20 @@ module _ (i n K : ℕ) (b : List ℕ) (q : SoundBut i n K b) (own : i < n) (hK :
       go : Dec (i ≡ j) → T (recordSound n K j b (recordOf n K j (putStation n K i s b)))
       go (yes e) =
           subst (λ (k : ℕ). T (recordSound n K k b (recordOf n K k (putStation n K i s b)))) e
-          (subst⁻¹ (λ (l : List ℕ). T (recordSound n K i b l)) (station-same n K b (q .len) i own s) (record-sound n K (omega arith) hK i b s fits g))
-      go (no f) = subst⁻¹ (λ (l : List ℕ). T (recordSound n K j b l)) (station-other n K b (q .len) i own s j h f) (q .others j h f)
+          (subst⁻¹ (λ (l : List ℕ). T (recordSound n K i b l)) (station-same n K b (q .len) i own s)
+          (record-sound n K (omega arith) hK i b s fits g))
+      go (no f) =
+          subst⁻¹ (λ (l : List ℕ). T (recordSound n K j b l)) (station-other n K b (q .len) i own s j h f)
+          (q .others j h f)
 
   pub station-keeps : SoundBoard n K (putStation n K i s b)
   unfolding headSound
   station-keeps = record {
     len = station-length n K b (q .len) i own s;
     head = subst⁻¹ (λ (l : List ℕ). T (zeros l)) (station-before n K b (q .len) i own s 2 6 (lit≤ tt)) (q .head);
-    registers = λ a h j l. subst⁻¹ (λ (z : List ℕ). T (registerTest K a z)) (own-registers j l a h) (q .registers a h j l);
-    records = λ j h. record-as n K j b (putStation n K i s b) (recordOf n K j (putStation n K i s b)) (own-registers j h) (record-at j h);
+    registers =
+        λ a h j l. subst⁻¹ (λ (z : List ℕ). T (registerTest K a z)) (own-registers j l a h) (q .registers a h j l);
+    records =
+        λ j h. record-as n K j b (putStation n K i s b) (recordOf n K j (putStation n K i s b)) (own-registers j h)
+        (record-at j h);
   }

@@ -1,8 +1,6 @@
 -- How a station stands by the phase of its record.
 -- Relies on the layout; the code that tells how a station stands, in a line or as an answer, relies on it.
-use mathlib.Core.Path.{_≡_, refl, ap, _∙_}
-use Prim.Native.Nat.{ℕ, zero, suc, _≤_, _<_}
-use native.Mathlib.Omega.{arith}
+use Rattle.model.proofs.Kit.{_≡_, refl, ap, _∙_, ℕ, zero, suc, _≤_, _<_, arith}
 use Rattle.model.specs.declared.Record.{Record}
 use Rattle.model.specs.Layout.{recordValue, ofPhase, writingOf, readingOf}
 use Rattle.model.specs.Standing.{stands-idle, stands-going, stands-decided, stands-spent, standingOf}
@@ -43,7 +41,8 @@ module _ (f : Record) where
   unfolding recordValue
   idle-stands e = ap (λ (p : ℕ). standingOf (ofPhase p f)) e ∙ idle-at f
 
-  pub going-stands : (f .phase ≡ 0 → ⊥) → f .phase < 7 → standingOf (recordValue f) ≡ stands-going (f .island) (f .carried)
+  pub going-stands : (f .phase ≡ 0 → ⊥) → f .phase < 7
+      → standingOf (recordValue f) ≡ stands-going (f .island) (f .carried)
   unfolding recordValue
   going-stands n h = going-at (f .phase) f n h
 
@@ -51,6 +50,7 @@ module _ (f : Record) where
   unfolding recordValue
   decided-stands e = ap (λ (p : ℕ). standingOf (ofPhase p f)) e ∙ decided-at f
 
-  pub spent-stands : 7 ≤ f .phase → (f .phase ≡ 7 → ⊥) → standingOf (recordValue f) ≡ stands-spent (f .island) (f .carried)
+  pub spent-stands : 7 ≤ f .phase → (f .phase ≡ 7 → ⊥)
+      → standingOf (recordValue f) ≡ stands-spent (f .island) (f .carried)
   unfolding recordValue
   spent-stands h n = spent-at (f .phase) f h n

@@ -1,11 +1,9 @@
 -- Where the parts of a board stand: each inside, and no two meet.
 -- Relies on the layout's offsets; the laws on a board after a write rely on it.
-use mathlib.Core.Path.{_≡_, refl, ap}
-use mathlib.Core.Logic.{_⊎_, inl, inr, ⊎-elim}
-use Prim.Native.Nat.{ℕ, _+_, _*_, _≤_, _<_}
-use native.Mathlib.Nat.{mul-le-mul-left, eq-or-lt-of-le, lt-of-not-le}
-use native.Mathlib.Decide.{decLe, ℕ-discrete}
-use native.Mathlib.Omega.{arith}
+use Rattle.model.proofs.Kit.{_≡_, refl, ap, inl, inr, ⊎-elim, _⊎_, ℕ, _+_, _≤_, _<_, _*_, ℕ-discrete}
+use Rattle.model.proofs.Kit.{lt-of-not-le, eq-or-lt-of-le, arith}
+use native.Mathlib.Nat.{mul-le-mul-left}
+use native.Mathlib.Decide.{decLe}
 use Rattle.model.specs.Listing.{Array, inM, inA, inB}
 use Rattle.model.specs.Layout.{boardLength, rowOf, registerAt, recordAt}
 
@@ -77,7 +75,8 @@ module _ (n K : ℕ) where
   unfolding recordAt
   head-before-records i = omega arith
 
-  pub records-apart : (i j : ℕ) → (i ≡ j → ⊥) → (recordAt n K i + 24 ≤ recordAt n K j) ⊎ (recordAt n K j + 24 ≤ recordAt n K i)
+  pub records-apart : (i j : ℕ) → (i ≡ j → ⊥)
+      → (recordAt n K i + 24 ≤ recordAt n K j) ⊎ (recordAt n K j + 24 ≤ recordAt n K i)
   unfolding recordAt
   records-apart i j f = go (compared i j)
     where

@@ -1,11 +1,6 @@
 -- Soundness as facts: what the test says of each register and each record of a board, and the values there.
--- Relies on the tests' laws, Boards and Good; that the calls keep a board sound relies on it, and so do the code's proofs.
-use mathlib.Core.Path.{_≡_}
-use mathlib.Core.Bool.{Bool, _&&_}
-use mathlib.Core.List.{List}
-use Prim.Native.Nat.{ℕ, _<_}
-use lib.Dec.{T}
-use lib.ListN.{length}
+-- Relies on the tests' laws, Boards and Good; that calls keep a board sound and the code's proofs rely on it.
+use Rattle.model.proofs.Kit.{_≡_, Bool, _&&_, List, ℕ, _<_, T, length}
 use Rattle.model.specs.Bytes.{part, every}
 use Rattle.model.specs.Listing.{Array, inM, inA, inB}
 use Rattle.model.specs.Layout.{boardLength, registerAt, recordOf}
@@ -42,30 +37,40 @@ pub record SoundBoard (n K : ℕ) (b : List ℕ) : Type 0 where
   pub registers : (a : Array) → InBoard K a → (j : ℕ) → j < n → T (registerTest K a (registerPart n a j b))
   pub records : (j : ℕ) → j < n → T (recordSound n K j b (recordOf n K j b))
 
-array-at : (n K : ℕ) (b : List ℕ) (a : Array) → T (arraySound n (marksIn a) (islandsIn K a) b a) → (j : ℕ) → j < n → T (registerTest K a (registerPart n a j b))
+array-at : (n K : ℕ) (b : List ℕ) (a : Array) → T (arraySound n (marksIn a) (islandsIn K a) b a) → (j : ℕ) → j < n
+    → T (registerTest K a (registerPart n a j b))
 unfolding arraySound registerTest registerPart
-array-at n K b a t j h = every-at n (λ (i : ℕ). registerSound (marksIn a) (islandsIn K a) (part (registerAt n a i) 8 b)) t j h
+array-at n K b a t j h =
+    every-at n (λ (i : ℕ). registerSound (marksIn a) (islandsIn K a) (part (registerAt n a i) 8 b)) t j h
 
-array-all : (n K : ℕ) (b : List ℕ) (a : Array) → ((j : ℕ) → j < n → T (registerTest K a (registerPart n a j b))) → T (arraySound n (marksIn a) (islandsIn K a) b a)
+array-all : (n K : ℕ) (b : List ℕ) (a : Array) → ((j : ℕ) → j < n → T (registerTest K a (registerPart n a j b)))
+    → T (arraySound n (marksIn a) (islandsIn K a) b a)
 unfolding arraySound registerTest registerPart
 array-all n K b a f = every-all n (λ (i : ℕ). registerSound (marksIn a) (islandsIn K a) (part (registerAt n a i) 8 b)) f
 
-arrays-at : (n K : ℕ) (b : List ℕ) → T (registersSound n K b) → (a : Array) → InBoard K a → T (arraySound n (marksIn a) (islandsIn K a) b a)
+arrays-at : (n K : ℕ) (b : List ℕ) → T (registersSound n K b) → (a : Array) → InBoard K a
+    → T (arraySound n (marksIn a) (islandsIn K a) b a)
 unfolding registersSound InBoard marksIn islandsIn
-arrays-at n K b t inM h = and-l (arraySound n 1 K b inM) (every K (λ (c : ℕ). arraySound n 1 1 b (inA c) && arraySound n 2 1 b (inB c))) t
+arrays-at n K b t inM h =
+    and-l (arraySound n 1 K b inM) (every K (λ (c : ℕ). arraySound n 1 1 b (inA c) && arraySound n 2 1 b (inB c))) t
 arrays-at n K b t (inA c) h =
     and-l (arraySound n 1 1 b (inA c)) (arraySound n 2 1 b (inB c))
-    (every-at K (λ (k : ℕ). arraySound n 1 1 b (inA k) && arraySound n 2 1 b (inB k)) (and-r (arraySound n 1 K b inM) _ t) c h)
+    (every-at K (λ (k : ℕ). arraySound n 1 1 b (inA k) && arraySound n 2 1 b (inB k))
+    (and-r (arraySound n 1 K b inM) _ t) c h)
 arrays-at n K b t (inB c) h =
     and-r (arraySound n 1 1 b (inA c)) (arraySound n 2 1 b (inB c))
-    (every-at K (λ (k : ℕ). arraySound n 1 1 b (inA k) && arraySound n 2 1 b (inB k)) (and-r (arraySound n 1 K b inM) _ t) c h)
+    (every-at K (λ (k : ℕ). arraySound n 1 1 b (inA k) && arraySound n 2 1 b (inB k))
+    (and-r (arraySound n 1 K b inM) _ t) c h)
 
-arrays-all : (n K : ℕ) (b : List ℕ) → ((a : Array) → InBoard K a → T (arraySound n (marksIn a) (islandsIn K a) b a)) → T (registersSound n K b)
+arrays-all : (n K : ℕ) (b : List ℕ) → ((a : Array) → InBoard K a → T (arraySound n (marksIn a) (islandsIn K a) b a))
+    → T (registersSound n K b)
 unfolding registersSound InBoard marksIn islandsIn
 arrays-all n K b f =
-    and-i (arraySound n 1 K b inM) (every K (λ (c : ℕ). arraySound n 1 1 b (inA c) && arraySound n 2 1 b (inB c))) (f inM tt)
+    and-i (arraySound n 1 K b inM) (every K (λ (c : ℕ). arraySound n 1 1 b (inA c) && arraySound n 2 1 b (inB c)))
+    (f inM tt)
     (every-all K (λ (c : ℕ). arraySound n 1 1 b (inA c) && arraySound n 2 1 b (inB c))
-    (λ (c : ℕ) (h : c < K). and-i (arraySound n 1 1 b (inA c)) (arraySound n 2 1 b (inB c)) (f (inA c) h) (f (inB c) h)))
+    (λ (c : ℕ) (h : c < K). and-i (arraySound n 1 1 b (inA c)) (arraySound n 2 1 b (inB c)) (f (inA c) h)
+    (f (inB c) h)))
 
 module _ (n K : ℕ) (b : List ℕ) where
   each-record : Bool
@@ -76,13 +81,19 @@ module _ (n K : ℕ) (b : List ℕ) where
   sound-facts l t = record {
     len = l;
     head = and-l (headSound b) (registersSound n K b) (and-l (headSound b && registersSound n K b) each-record t);
-    registers = λ a h. array-at n K b a (arrays-at n K b (and-r (headSound b) (registersSound n K b) (and-l (headSound b && registersSound n K b) each-record t)) a h);
-    records = every-at n (λ (i : ℕ). recordSound n K i b (recordOf n K i b)) (and-r (headSound b && registersSound n K b) each-record t);
+    registers =
+        λ a h. array-at n K b a
+        (arrays-at n K b
+        (and-r (headSound b) (registersSound n K b) (and-l (headSound b && registersSound n K b) each-record t)) a h);
+    records =
+        every-at n (λ (i : ℕ). recordSound n K i b (recordOf n K i b))
+        (and-r (headSound b && registersSound n K b) each-record t);
   }
 
   pub facts-sound : SoundBoard n K b → T (sound n K b)
   unfolding sound each-record
   facts-sound s =
       and-i (headSound b && registersSound n K b) each-record
-      (and-i (headSound b) (registersSound n K b) (s .head) (arrays-all n K b (λ a h. array-all n K b a (s .registers a h))))
+      (and-i (headSound b) (registersSound n K b) (s .head)
+      (arrays-all n K b (λ a h. array-all n K b a (s .registers a h))))
       (every-all n (λ (i : ℕ). recordSound n K i b (recordOf n K i b)) (s .records))

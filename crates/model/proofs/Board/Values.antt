@@ -1,21 +1,22 @@
 -- The values on a sound board: each station good, each register readable, each station's own register as it wrote it.
 -- Relies on SoundFacts, Good and OneRead; that the calls keep a board sound relies on it.
-use mathlib.Core.Path.{_≡_, refl, sym, subst}
-use mathlib.Core.Bool.{Bool, cond, _&&_}
-use mathlib.Core.List.{List}
-use Prim.Native.Nat.{ℕ, zero, suc, _<_}
-use lib.Dec.{T, eqb, leb, ltb, ltb→lt, lt→ltb, eqb→eq, eqb-refl, eqb·suc-zero}
+use Rattle.model.proofs.Kit.{_≡_, refl, sym, subst, Bool, cond, _&&_, List, ℕ, zero, suc, _<_, eqb, leb, ltb, T}
+use Rattle.model.proofs.Kit.{eqb→eq, eqb-refl, ltb→lt, lt→ltb}
+use lib.Dec.{eqb·suc-zero}
 use Rattle.model.specs.Bytes.{byte, part, zeros}
 use Rattle.model.specs.Figure.{Figure, figure, figures, sameFigure}
-use Rattle.model.specs.Listing.{Flag, adopt, commit, Turn, turnM, turnA, turnB, Register, empty, filled, Seen, nothing, seen, Stage, writing, reading, has-decided, is-spent}
-use Rattle.model.specs.Listing.{Station, active, array, entry, placeArray, placeColumn}
-use Rattle.model.specs.Listing.{flagNumber}
-use Rattle.model.specs.Layout.{registerAt, readRegister, registerValue, seenOf, readRecord, recordValue, writingOf, readingOf, ofPhase, registerOf, recordOf, stationOf}
-use Rattle.model.specs.Sound.{registerSound, sameRegister, ownWritten, ownSeen, ownPassed, fieldsSound, recordSound}
+use Rattle.model.specs.Listing.{Flag, adopt, commit, Turn, turnM, turnA, turnB, Register, empty, filled, Seen}
+use Rattle.model.specs.Listing.{nothing, seen, Stage, writing, reading, has-decided, is-spent, Station, active}
+use Rattle.model.specs.Listing.{array, entry, placeArray, placeColumn, flagNumber}
+use Rattle.model.specs.Layout.{registerAt, readRegister, registerValue, seenOf, readRecord, recordValue}
+use Rattle.model.specs.Layout.{writingOf, readingOf, ofPhase, registerOf, recordOf, stationOf}
+use Rattle.model.specs.Sound.{registerSound, sameRegister, ownWritten, ownSeen, ownPassed, fieldsSound}
+use Rattle.model.specs.Sound.{recordSound}
 use Rattle.model.proofs.Basics.Tests.{and-l, and-r, and-i, implies-use}
 use Rattle.model.proofs.Basics.Numbers.{same-is, same-refl}
 use Rattle.model.proofs.Board.Places.{InBoard}
-use Rattle.model.proofs.Board.Codec.{marked-by, register, station, FitsRegister, FitsSeen, FitsStage, FitsStation, figure-Fits}
+use Rattle.model.proofs.Board.Codec.{marked-by, register, station, FitsRegister, FitsSeen, FitsStage}
+use Rattle.model.proofs.Board.Codec.{FitsStation, figure-Fits}
 use Rattle.model.proofs.Board.Boards.{registerPart}
 use Rattle.model.proofs.Board.Good.{GoodStation, GoodStage, fields-good}
 use Rattle.model.proofs.Listing.Collect.{Something, Filled, entry-fills, last-read-sees}
@@ -78,7 +79,8 @@ register-same-is empty empty t = refl
 register-same-is empty (filled f k v) t = absurd t
 register-same-is (filled f k v) empty t = absurd t
 register-same-is (filled f k v) (filled g j w) t = λ i.
-    filled (flag-same f g (search (and-l, and-r)) i) (eqb→eq k j (search (and-l, and-r)) i) (same-is v w (search (and-l, and-r)) i)
+    filled (flag-same f g (search (and-l, and-r)) i) (eqb→eq k j (search (and-l, and-r)) i)
+    (same-is v w (search (and-l, and-r)) i)
 
 pub register-same-refl : (r : Register Figure) → T (sameRegister r r)
 unfolding sameRegister
@@ -89,11 +91,13 @@ register-same-refl (filled f k v) =
 
 -- ---- a register's test, on values
 
-read-m : (K h k : ℕ) (v : Figure) (r : List ℕ) → T (cond (eqb h 0) (zeros r) (leb h 1 && ltb k K && zeros (part 2 2 r))) → GoodRead K turnM (marked-by h k v)
+read-m : (K h k : ℕ) (v : Figure) (r : List ℕ) → T (cond (eqb h 0) (zeros r) (leb h 1 && ltb k K && zeros (part 2 2 r)))
+    → GoodRead K turnM (marked-by h k v)
 unfolding GoodRead
 read-m K zero k v r t = tt
 read-m K (suc h) k v r t =
-    let s = subst (λ (e : Bool). T (cond e (zeros r) (leb (suc h) 1 && ltb k K && zeros (part 2 2 r)))) (eqb·suc-zero h) t in
+    let s = subst (λ (e : Bool). T (cond e (zeros r) (leb (suc h) 1 && ltb k K && zeros (part 2 2 r))))
+    (eqb·suc-zero h) t in
     ltb→lt k K (search (and-l, and-r))
 
 read-a : (K h k : ℕ) (v : Figure) → GoodRead K turnA (marked-by h k v)
@@ -120,19 +124,22 @@ pub record SoundStation (n K i : ℕ) (b : List ℕ) (s : Station Figure) : Type
   pub written : T (ownWritten n i b s)
   pub passed : T (ownPassed i s)
 
-pub sound-station : (n K : ℕ) (b : List ℕ) → SoundBoard n K b → (i : ℕ) → i < n → SoundStation n K i b (stationOf n K i b)
+pub sound-station : (n K : ℕ) (b : List ℕ) → SoundBoard n K b → (i : ℕ) → i < n
+    → SoundStation n K i b (stationOf n K i b)
 unfolding stationOf recordValue readRecord recordSound
 sound-station n K b s i h = record {
   good = fields-good n K (byte r 0) r (and-l (fieldsSound n K (byte r 0) r) (ownWritten n i b (station r)) all-but);
   written = and-r (fieldsSound n K (byte r 0) r) (ownWritten n i b (station r)) all-but;
-  passed = and-r (fieldsSound n K (byte r 0) r && ownWritten n i b (station r)) (ownPassed i (station r)) (s .records i h);
+  passed =
+      and-r (fieldsSound n K (byte r 0) r && ownWritten n i b (station r)) (ownPassed i (station r)) (s .records i h);
 }
   where
     r : List ℕ
     r = recordOf n K i b
 
     all-but : T (fieldsSound n K (byte r 0) r && ownWritten n i b (station r))
-    all-but = and-l (fieldsSound n K (byte r 0) r && ownWritten n i b (station r)) (ownPassed i (station r)) (s .records i h)
+    all-but =
+        and-l (fieldsSound n K (byte r 0) r && ownWritten n i b (station r)) (ownPassed i (station r)) (s .records i h)
 
 own-something : (t : Turn) (c : ℕ) (x : Figure) (a : Seen Figure) → T (ownSeen t c x a) → Something a
 unfolding ownSeen
@@ -152,9 +159,11 @@ readable n K b q i h v (writing t c x) s = tt
 readable n K b q i h v (has-decided c x) s = tt
 readable n K b q i h v (is-spent c x) s = tt
 readable n K b q i h v (reading t c x p a) s = (
-  read-good K t c (part (registerAt n (array t c) p) 8 b) (q .registers (array t c) (array-inside K t c (s .good .0)) p (s .good .1)),
+  read-good K t c (part (registerAt n (array t c) p) 8 b)
+      (q .registers (array t c) (array-inside K t c (s .good .0)) p (s .good .1)),
   register-Fits (part (registerAt n (array t c) p) 8 b),
   λ l. last-read-sees figures n p i h l t a _
       (λ k. own-something t c x a (implies-use (ltb i p) (ownSeen t c x a) (s .passed) (lt→ltb i p k)))
-      (λ e. subst (λ (j : ℕ). Filled (register (part (registerAt n (array t c) j) 8 b))) e (subst Filled (sym (own-register n K i b v t c x p a s)) (entry-fills t c x))),
+      (λ e. subst (λ (j : ℕ). Filled (register (part (registerAt n (array t c) j) 8 b))) e
+      (subst Filled (sym (own-register n K i b v t c x p a s)) (entry-fills t c x))),
 )

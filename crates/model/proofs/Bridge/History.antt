@@ -1,24 +1,17 @@
 -- What a list's answers say of a station, read off the board that the list leaves, and back.
--- Relies on Along and Tells; demand 3 relies on it.
-use mathlib.Core.Path.{_≡_, sym, ap, _∙_, subst}
-use mathlib.Core.List.{List, [], _∷_}
-use mathlib.Core.Logic.{_⊎_, inl, inr, ⊎-elim}
-use Prim.Native.Nat.{ℕ, suc, _<_}
-use native.Mathlib.Omega.{arith}
-use Rattle.model.specs.Figure.{Figure, figures}
+-- Relies on Along; demand 3 relies on it.
+use Rattle.model.proofs.Kit.{_≡_, sym, _∙_, inl, inr, ⊎-elim, _⊎_, List, [], _∷_, ℕ, suc, _<_}
+use Rattle.model.specs.Figure.{Figure}
 use Rattle.model.specs.Listing.{Stage, has-decided, Station, idle, active, proposed}
 use Rattle.model.specs.Layout.{stationOf}
-use Rattle.model.specs.AnyList.{Call, called, AllAllowed, Some, Proposes, Steps}
+use Rattle.model.specs.AnyList.{Call, called, after, Allowed, AllAllowed, Some, Proposes, Steps}
+use Rattle.model.proofs.Basics.Tests.{impossible}
 use Rattle.model.proofs.Listing.Collect.{Filled}
-use Rattle.model.proofs.Listing.Going.{Going}
-use Rattle.model.proofs.Agreement.State.{moveOf}
-use Rattle.model.proofs.Bridge.View.{view}
-use Rattle.model.specs.AnyList.{after}
-use Rattle.model.proofs.Bridge.Lists.{Held, changed, held-along}
+use Rattle.model.proofs.Bridge.Lists.{Held, Keeps, changed, held-along}
 use Rattle.model.proofs.Bridge.Along.{mOf, Along, stays, starts, goes, along}
 
 pub absurd-idle : {X : Type 0} {v : Figure} {s : Stage Figure} {z : Station Figure} → z ≡ idle → z ≡ active v s → X
-absurd-idle p q = absurd (let z : _≡_ {A = ℕ} 0 1 = cc in omega arith)
+absurd-idle p q = impossible (cc)
 
 pub same-proposal : {v w : Figure} {s t : Stage Figure} {z : Station Figure} → z ≡ active v s → z ≡ active w t → v ≡ w
 same-proposal p q = cc
@@ -26,92 +19,72 @@ same-proposal p q = cc
 pub same-stage : {v w : Figure} {s t : Stage Figure} {z : Station Figure} → z ≡ active v s → z ≡ active w t → s ≡ t
 same-stage p q = cc
 
-module _ (n K : ℕ) where
-  -- ---- one call
+module _ (n K j : ℕ) (own : j < n) where
+  here : (c : Call) (b : List ℕ) → Held n K b → Allowed c b → Along n K c b j
+  here c b h a = along n K c b h (changed n K c b h a) j own
 
-  module _ (c : Call) (b : List ℕ) (j : ℕ) where
-    decided-stays : Along n K c b j → (w : Figure) (k : ℕ) (v : Figure) → stationOf n K j b ≡ active w (has-decided k v)
-        → stationOf n K j (called c b) ≡ active w (has-decided k v)
-    decided-stays (stays e m) w k v d = e ∙ d
-    decided-stays (starts u p i e m) w k v d = absurd-idle i d
-    decided-stays (goes u s p a g e r f) w k v d = absurd (subst Going (same-stage a d) g)
+  -- what every call keeps, a list keeps
+  kept : (P : List ℕ → Type 0) → ((c : Call) (b : List ℕ) → Along n K c b j → P b → P (called c b)) → Keeps n K P
+  unfolding after AllAllowed
+  kept P f [] b h a p = p
+  kept P f (c ∷ cs) b h a p =
+      kept P f cs (called c b) (held-along n K c b h (a .0)) (a .1) (f c b (here c b h (a .0)) p)
 
-    active-stays : Along n K c b j → (v : Figure) (s : Stage Figure) → stationOf n K j b ≡ active v s
-        → (t : Stage Figure) × (stationOf n K j (called c b) ≡ active v t)
-    active-stays (stays e m) v s d = (s, e ∙ d)
-    active-stays (starts u p i e m) v s d = absurd-idle i d
-    active-stays (goes u t p a g e r f) v s d =
-        (moveOf figures n K j t (view n K b) .stage, e ∙ ap (λ (w : Figure). active w (moveOf figures n K j t (view n K b) .stage)) (same-proposal a d))
+  -- what holds after a list held before it, unless some call brought it
+  traced : (P : List ℕ → Type 0) (Q : Call → List ℕ → Type 0)
+      → ((c : Call) (b : List ℕ) → Along n K c b j → P (called c b) → P b ⊎ Q c b)
+      → (cs : List Call) (b : List ℕ) → Held n K b → AllAllowed cs b → P (after cs b) → P b ⊎ Some Q cs b
+  unfolding after AllAllowed Some
+  traced P Q f [] b h a p = inl p
+  traced P Q f (c ∷ cs) b h a p =
+      ⊎-elim (λ q. ⊎-elim inl (λ r. inr (inl r)) (f c b (here c b h (a .0)) q)) (λ q. inr (inr q))
+      (traced P Q f cs (called c b) (held-along n K c b h (a .0)) (a .1) p)
 
-    proposal-back : Along n K c b j → (v : Figure) (s : Stage Figure) → stationOf n K j (called c b) ≡ active v s
-        → ((t : Stage Figure) × (stationOf n K j b ≡ active v t)) ⊎ Proposes (suc j) v c b
-    unfolding proposed
-    proposal-back (stays e m) v s d = inl (s, sym e ∙ d)
-    proposal-back (starts u p i e m) v s d = inr (subst (λ (w : Figure). Proposes (suc j) w c b) (same-proposal e d) p)
-    proposal-back (goes u t p a g e r f) v s d = inl (t, subst (λ (w : Figure). stationOf n K j b ≡ active w t) (same-proposal e d) a)
+  -- the station stands with proposal w and has decided v on island k
+  abbrev pub Ended : Figure → ℕ → Figure → List ℕ → Type 0
+  Ended w k v b = stationOf n K j b ≡ active w (has-decided k v)
 
-    filled-back : Along n K c b j → Filled (mOf n K j (called c b)) → Filled (mOf n K j b) ⊎ Steps (suc j) c b
-    filled-back (stays e m) d = inl (subst Filled m d)
-    filled-back (starts u p i e m) d = inl (subst Filled m d)
-    filled-back (goes u t p a g e r f) d = inr p
+  pub decided-after : (w : Figure) (k : ℕ) (v : Figure) → Keeps n K (Ended w k v)
+  decided-after w k v = kept (Ended w k v) (λ c b. elim [
+    | stays e m ↦ λ d. e ∙ d
+    | starts u p i e m ↦ λ d. absurd-idle i d
+    | goes u s t p a g e f ↦ λ d. absurd (rw (same-stage a d) at g)
+  ])
 
-    filled-on : Along n K c b j → Filled (mOf n K j b) → Filled (mOf n K j (called c b))
-    filled-on (stays e m) d = subst Filled (sym m) d
-    filled-on (starts u p i e m) d = subst Filled (sym m) d
-    filled-on (goes u t p a g e r f) d = f
+  -- the station stands with proposal v
+  abbrev pub Stands : Figure → List ℕ → Type 0
+  Stands v b = (s : Stage Figure) × (stationOf n K j b ≡ active v s)
 
-  -- ---- a list
+  pub active-after : (v : Figure) → Keeps n K (Stands v)
+  active-after v = kept (Stands v) (λ c b. elim [
+    | stays e m ↦ λ d. (d .0, e ∙ d .1)
+    | starts u p i e m ↦ λ d. absurd-idle i (d .1)
+    | goes u s t p a g e f ↦ λ d. (t, rw (← same-proposal a (d .1)) e)
+  ])
 
-  here : (c : Call) (cs : List Call) (b : List ℕ) → Held n K b → AllAllowed (c ∷ cs) b → (j : ℕ) → j < n → Along n K c b j
-  unfolding AllAllowed
-  here c cs b h a j own = along n K c b h (changed n K c b h (a .0)) j own
+  pub proposal-of : (v : Figure) (cs : List Call) (b : List ℕ) → Held n K b → AllAllowed cs b → Stands v (after cs b)
+      → Stands v b ⊎ Some (Proposes (suc j) v) cs b
+  proposal-of v = traced (Stands v) (Proposes (suc j) v) (λ c b. elim [
+    | stays e m ↦ λ d. inl (d .0, sym e ∙ d .1)
+    | starts u p i e m ↦ λ d. inr (unfold proposed in (rw (same-proposal e (d .1)) at p))
+    | goes u s t p a g e f ↦ λ d. inl (s, rw (← same-proposal e (d .1)) a)
+  ])
 
-  pub on : (c : Call) (cs : List Call) (b : List ℕ) → Held n K b → AllAllowed (c ∷ cs) b → Held n K (called c b)
-  unfolding AllAllowed
-  on c cs b h a = held-along n K c b h (a .0)
+  -- its register of m is filled
+  abbrev pub Begun : List ℕ → Type 0
+  Begun b = Filled (mOf n K j b)
 
-  pub rest : (c : Call) (cs : List Call) (b : List ℕ) → AllAllowed (c ∷ cs) b → AllAllowed cs (called c b)
-  unfolding AllAllowed
-  rest c cs b a = a .1
+  pub steps-of : (cs : List Call) (b : List ℕ) → Held n K b → AllAllowed cs b → Begun (after cs b)
+      → Begun b ⊎ Some (Steps (suc j)) cs b
+  steps-of = traced Begun (Steps (suc j)) (λ c b. elim [
+    | stays e m ↦ λ d. inl (rw m at d)
+    | starts u p i e m ↦ λ d. inl (rw m at d)
+    | goes u s t p a g e f ↦ λ d. inr p
+  ])
 
-  pub decided-after : (cs : List Call) (b : List ℕ) → Held n K b → AllAllowed cs b → (j : ℕ) → j < n → (w : Figure) (k : ℕ) (v : Figure)
-      → stationOf n K j b ≡ active w (has-decided k v) → stationOf n K j (after cs b) ≡ active w (has-decided k v)
-  unfolding after
-  decided-after [] b h a j own w k v d = d
-  decided-after (c ∷ cs) b h a j own w k v d =
-      decided-after cs (called c b) (on c cs b h a) (rest c cs b a) j own w k v (decided-stays c b j (here c cs b h a j own) w k v d)
-
-  pub active-after : (cs : List Call) (b : List ℕ) → Held n K b → AllAllowed cs b → (j : ℕ) → j < n → (v : Figure) (s : Stage Figure)
-      → stationOf n K j b ≡ active v s → (t : Stage Figure) × (stationOf n K j (after cs b) ≡ active v t)
-  unfolding after
-  active-after [] b h a j own v s d = (s, d)
-  active-after (c ∷ cs) b h a j own v s d =
-      let q = active-stays c b j (here c cs b h a j own) v s d in
-      active-after cs (called c b) (on c cs b h a) (rest c cs b a) j own v (q .0) (q .1)
-
-  pub proposal-of : (cs : List Call) (b : List ℕ) → Held n K b → AllAllowed cs b → (j : ℕ) → j < n → (v : Figure) (s : Stage Figure)
-      → stationOf n K j (after cs b) ≡ active v s → ((t : Stage Figure) × (stationOf n K j b ≡ active v t)) ⊎ Some (Proposes (suc j) v) cs b
-  unfolding after Some
-  proposal-of [] b h a j own v s d = inl (s, d)
-  proposal-of (c ∷ cs) b h a j own v s d =
-      ⊎-elim (λ (q : (t : Stage Figure) × (stationOf n K j (called c b) ≡ active v t)).
-      ⊎-elim (λ (p : (t : Stage Figure) × (stationOf n K j b ≡ active v t)). inl p) (λ (p : Proposes (suc j) v c b). inr (inl p))
-      (proposal-back c b j (here c cs b h a j own) v (q .0) (q .1)))
-      (λ (q : Some (Proposes (suc j) v) cs (called c b)). inr (inr q))
-      (proposal-of cs (called c b) (on c cs b h a) (rest c cs b a) j own v s d)
-
-  pub steps-of : (cs : List Call) (b : List ℕ) → Held n K b → AllAllowed cs b → (j : ℕ) → j < n
-      → Filled (mOf n K j (after cs b)) → Filled (mOf n K j b) ⊎ Some (Steps (suc j)) cs b
-  unfolding after Some
-  steps-of [] b h a j own d = inl d
-  steps-of (c ∷ cs) b h a j own d =
-      ⊎-elim (λ (q : Filled (mOf n K j (called c b))).
-      ⊎-elim (λ (p : Filled (mOf n K j b)). inl p) (λ (p : Steps (suc j) c b). inr (inl p)) (filled-back c b j (here c cs b h a j own) q))
-      (λ (q : Some (Steps (suc j)) cs (called c b)). inr (inr q)) (steps-of cs (called c b) (on c cs b h a) (rest c cs b a) j own d)
-
-  pub filled-after : (cs : List Call) (b : List ℕ) → Held n K b → AllAllowed cs b → (j : ℕ) → j < n
-      → Filled (mOf n K j b) → Filled (mOf n K j (after cs b))
-  unfolding after
-  filled-after [] b h a j own d = d
-  filled-after (c ∷ cs) b h a j own d =
-      filled-after cs (called c b) (on c cs b h a) (rest c cs b a) j own (filled-on c b j (here c cs b h a j own) d)
+  pub filled-after : Keeps n K Begun
+  filled-after = kept Begun (λ c b. elim [
+    | stays e m ↦ λ d. rw m d
+    | starts u p i e m ↦ λ d. rw m d
+    | goes u s t p a g e f ↦ λ d. f
+  ])

@@ -1,26 +1,21 @@
 -- Lists of calls: the invariant holds after any list, and what the list's answers say of a station can be read off the
 -- board that it leaves.
 -- Relies on Single and the invariant; demand 3 relies on it.
-use mathlib.Core.Path.{_≡_, refl, sym, ap, _∙_, subst, subst₂}
-use mathlib.Core.Bool.{Bool, true, false}
-use mathlib.Core.List.{List, [], _∷_}
-use mathlib.Core.Logic.{_⊎_, inl, inr}
-use mathlib.Core.Option.{none, some}
-use Prim.Native.Nat.{ℕ, _-_, _<_}
-use lib.Dec.{lit<}
-use Rattle.model.specs.Bytes.{byte}
+use Rattle.model.proofs.Kit.{_≡_, refl, _∙_, ⊎-elim, List, [], _∷_, ℕ, _-_}
 use Rattle.model.specs.Figure.{Figure, figures}
 use Rattle.model.specs.Listing.{accepted}
 use Rattle.model.specs.Calls.{stations, islands, propose, step}
-use Rattle.model.specs.AnyList.{Call, laying, proposing, stepping, called, after, Allowed, AllAllowed}
+use Rattle.model.specs.AnyList.{Call, laying, proposing, stepping, called, after, Allowed, AllAllowed, Proposes}
+use Rattle.model.specs.AnyList.{Steps}
 use Rattle.model.proofs.Basics.Numbers.{same-law}
+use Rattle.model.proofs.Basics.Tests.{by-test}
 use Rattle.model.proofs.Board.Codec.{Fits}
-use Rattle.model.proofs.Calls.CallsKeep.{propose-keeps, step-keeps, propose-head, step-head}
 use Rattle.model.proofs.Calls.Refusals.{Board, refusal-case}
 use Rattle.model.proofs.Calls.Refused.{lay-refused, propose-refused, step-refused}
 use Rattle.model.proofs.Agreement.Calls.{Inv, inv-propose, inv-move}
 use Rattle.model.proofs.Bridge.View.{view, view-station}
-use Rattle.model.proofs.Bridge.Single.{ProposeSim, propose-sim, StepSim, step-sim}
+use Rattle.model.proofs.Bridge.Single.{Ready, step-ready, propose-ready, ProposeSim, propose-sim, StepSim}
+use Rattle.model.proofs.Bridge.Single.{step-sim}
 
 -- what the whole argument carries along a list: a sound board of n and K whose state keeps the invariant
 pub record Held (n K : ℕ) (b : List ℕ) : Type 0 where
@@ -29,57 +24,49 @@ pub record Held (n K : ℕ) (b : List ℕ) : Type 0 where
   pub isK : islands b ≡ K
   pub inv : Inv n (view n K b)
 
+pub ready : (n K : ℕ) (b : List ℕ) → Held n K b → Ready n K b
+ready n K b h = record { board = h .board; isN = h .isN; isK = h .isK }
+
 -- One allowed call, told apart by its answer: the bytes stay, the state takes a proposal, or it takes a move.
 pub data Change (n K : ℕ) (c : Call) (b : List ℕ) : Type 0 where
   same : called c b ≡ b → Change n K c b
-  takes : (i : ℕ) (v : Figure) → c ≡ proposing i v → propose i v b .answer ≡ none → ProposeSim n K i v b (called c b) → Change n K c b
-  moves : (i : ℕ) → c ≡ stepping i → accepted (step i b .answer) ≡ true → StepSim n K i b (step i b) → called c b ≡ step i b .bytes
-      → Change n K c b
+  takes : (i : ℕ) (v : Figure) → Proposes i v c b → ProposeSim n K i v b (called c b) → Change n K c b
+  moves : (i : ℕ) → Steps i c b → StepSim n K i b (step i b) → called c b ≡ step i b .bytes → Change n K c b
 
 pub changed : (n K : ℕ) (c : Call) (b : List ℕ) → Held n K b → Allowed c b → Change n K c b
-unfolding called Allowed Fits
+unfolding called Allowed Fits Proposes Steps
 changed n K (laying m L) b h a = same (lay-refused m L b (a .0) (a .1))
-changed n K (proposing i v) b h a = go (refusal-case (propose i v b .answer))
-  where
-    go : (propose i v b .answer ≡ none) ⊎ ((k : ℕ) × (propose i v b .answer ≡ some k)) → Change n K (proposing i v) b
-    go (inl e) = takes i v refl e (subst₂ (λ (m L : ℕ). ProposeSim m L i v b (propose i v b .bytes)) (h .isN) (h .isK) (propose-sim i v b a (h .board) e))
-    go (inr e) = same (propose-refused i v b (e .0) (e .1))
-changed n K (stepping i) b h a = go (accepted (step i b .answer)) refl
-  where
-    go : (t : Bool) → accepted (step i b .answer) ≡ t → Change n K (stepping i) b
-    go true e = moves i refl e (subst₂ (λ (m L : ℕ). StepSim m L i b (step i b)) (h .isN) (h .isK) (step-sim i b (h .board) e)) refl
-    go false e = same (step-refused i b e)
+changed n K (proposing i v) b h a =
+    ⊎-elim (λ e. takes i v (refl, e) (propose-sim n K i v b a (ready n K b h) e))
+    (λ e. same (propose-refused i v b (e .0) (e .1))) (refusal-case (propose i v b .answer))
+changed n K (stepping i) b h a =
+    by-test (accepted (step i b .answer)) (λ e. moves i (refl, e) (step-sim n K i b (ready n K b h) e) refl)
+    (λ e. same (step-refused i b e))
 
 -- the invariant along one call
 inv-along : (n K : ℕ) (c : Call) (b : List ℕ) → Held n K b → Change n K c b → Inv n (view n K (called c b))
-inv-along n K c b h (same e) = subst (λ (d : List ℕ). Inv n (view n K d)) (sym e) (h .inv)
-inv-along n K c b h (takes i v ec a s) =
-    subst (Inv n) (sym (s .after)) (inv-propose n (i - 1) v (s .own) (view-station n K b (i - 1) (s .own) ∙ s .rests) (h .inv))
-inv-along n K c b h (moves i ec a s eb) =
-    subst (λ (d : List ℕ). Inv n (view n K d)) (sym eb)
-    (subst (Inv n) (sym (s .after))
-    (inv-move figures same-law n K (i - 1) (s .own) (view-station n K b (i - 1) (s .own) ∙ s .stands) (s .goes) (h .inv)))
+inv-along n K c b h (same e) = rw e (h .inv)
+inv-along n K c b h (takes i v p s) =
+    let stands = view-station n K b (i - 1) (s .own) ∙ s .rests in
+    rw (s .after) (inv-propose n (i - 1) v (s .own) stands (h .inv))
+inv-along n K c b h (moves i p s eb) =
+    let stands = view-station n K b (i - 1) (s .own) ∙ s .stands in
+    rw (eb, s .after) (inv-move figures same-law n K (i - 1) (s .own) stands (s .goes) (h .inv))
 
-board-along : (c : Call) (b : List ℕ) → Allowed c b → Board b → Board (called c b)
+ready-along : (n K : ℕ) (c : Call) (b : List ℕ) → Ready n K b → Allowed c b → Ready n K (called c b)
 unfolding called Allowed Fits
-board-along (laying m L) b a h = subst Board (sym (lay-refused m L b (a .0) (a .1))) h
-board-along (proposing i v) b a h = propose-keeps i v a b h
-board-along (stepping i) b a h = step-keeps i b h
-
-head-along : (c : Call) (b : List ℕ) → Allowed c b → Board b → (k : ℕ) → k < 8 → byte (called c b) k ≡ byte b k
-unfolding called Allowed
-head-along (laying m L) b a h k l = ap (λ (d : List ℕ). byte d k) (lay-refused m L b (a .0) (a .1))
-head-along (proposing i v) b a h k l = propose-head i v b h k l
-head-along (stepping i) b a h k l = step-head i b h k l
+ready-along n K (laying m L) b r a = rw (lay-refused m L b (a .0) (a .1)) r
+ready-along n K (proposing i v) b r a = propose-ready n K i v b a r
+ready-along n K (stepping i) b r a = step-ready n K i b r
 
 pub held-along : (n K : ℕ) (c : Call) (b : List ℕ) → Held n K b → Allowed c b → Held n K (called c b)
-unfolding stations islands
-held-along n K c b h a = record {
-  board = board-along c b a (h .board);
-  isN = head-along c b a (h .board) 0 (lit< tt) ∙ h .isN;
-  isK = head-along c b a (h .board) 1 (lit< tt) ∙ h .isK;
-  inv = inv-along n K c b h (changed n K c b h a);
-}
+held-along n K c b h a =
+    let r = ready-along n K c b (ready n K b h) a in
+    record { board = r .board; isN = r .isN; isK = r .isK; inv = inv-along n K c b h (changed n K c b h a) }
+
+-- a list of allowed calls keeps P
+abbrev pub Keeps : (n K : ℕ) → (List ℕ → Type 0) → Type 0
+Keeps n K P = (cs : List Call) (b : List ℕ) → Held n K b → AllAllowed cs b → P b → P (after cs b)
 
 pub held-after : (n K : ℕ) (cs : List Call) (b : List ℕ) → Held n K b → AllAllowed cs b → Held n K (after cs b)
 unfolding after AllAllowed

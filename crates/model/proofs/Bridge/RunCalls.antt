@@ -1,12 +1,9 @@
 -- The steps of a run as calls of a list, so that demand 3 covers a run.
 -- Relies on Runs; a sheet's line of steps stands in demand 3 by it.
-use mathlib.Core.Path.{_≡_, refl}
-use mathlib.Core.List.{List, [], _∷_, map}
-use Prim.Native.Nat.{ℕ}
+use Rattle.model.proofs.Kit.{_≡_, refl, List, [], _∷_, map, ℕ}
 use Rattle.model.specs.Calls.{step}
-use Rattle.model.specs.AnyList.{stepping, called}
+use Rattle.model.specs.AnyList.{stepping, called, after}
 use Rattle.model.specs.Runs as runs
-use Rattle.model.specs.AnyList.{after}
 
 pub ran-calls : (is b : List ℕ) → runs.after step b is ≡ after (map stepping is) b
 unfolding runs.after after called

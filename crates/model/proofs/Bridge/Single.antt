@@ -1,17 +1,16 @@
 -- One call on bytes is one call on the state that the bytes stand for, with the same answer.
 -- Relies on View, Access and the calls' laws; lists of calls and the sequential run rely on it.
-use mathlib.Core.Path.{_≡_, refl, sym, ap, _∙_, subst}
-use mathlib.Core.Bool.{true}
-use mathlib.Core.List.{List}
-use mathlib.Core.Option.{Option, none, some}
-use Prim.Native.Nat.{ℕ, _-_, _≤_, _<_}
+use Rattle.model.proofs.Kit.{_≡_, refl, sym, ap, _∙_, subst₂, true, List, none, some, ℕ, _-_, _≤_, _<_, lit<}
+use Rattle.model.proofs.Kit.{arith}
+use Rattle.model.specs.Bytes.{byte}
 use Rattle.model.specs.Figure.{Figure, figures}
-use Rattle.model.specs.Listing.{Turn, Register, Seen, nothing, Stage, writing, reading, has-decided, is-spent, Station, idle, active, array, entry}
-use Rattle.model.specs.Listing.{Answer, refused, accepted, Move, move, placeArray, placeColumn, proposed}
+use Rattle.model.specs.Listing.{nothing, Stage, writing, reading, has-decided, is-spent, Station, idle, active}
+use Rattle.model.specs.Listing.{array, entry, Answer, refused, accepted, outcome, move, placeArray, placeColumn}
+use Rattle.model.specs.Listing.{proposed}
 use Rattle.model.specs.Layout.{registerOf, stationOf}
-use Rattle.model.specs.Calls.{After, Refusal, stations, islands, stationRefusal, stationAt, notIdle, propose, notGoing, access, stepped, stepOn, step}
+use Rattle.model.specs.Calls.{After, stations, islands, stationAt, notIdle, propose, notGoing, access, stepped}
+use Rattle.model.specs.Calls.{stepOn, step}
 use Rattle.model.proofs.Basics.Tests.{clash}
-use Rattle.model.proofs.Board.Places.{InBoard}
 use Rattle.model.proofs.Board.Codec.{Fits, FitsSeen, FitsStage, FitsStation}
 use Rattle.model.proofs.Board.Boards.{register-length}
 use Rattle.model.proofs.Board.Good.{GoodStage, GoodStation}
@@ -22,11 +21,12 @@ use Rattle.model.proofs.Listing.Written.{read-writes}
 use Rattle.model.proofs.Calls.Access.{write-bytes, read-bytes}
 use Rattle.model.proofs.Listing.Going.{Going}
 use Rattle.model.proofs.Calls.StepKeeps.{entry-fits}
-use Rattle.model.proofs.Calls.CallsKeep.{going-of, proposed-fits, good-stage, station-of-fits}
-use Rattle.model.proofs.Calls.Refusals.{some-none, Board, board-of, OnBoard, station-of, index-inside, call-case, step-on}
+use Rattle.model.proofs.Calls.CallsKeep.{going-of, proposed-fits, good-stage, station-of-fits, propose-keeps}
+use Rattle.model.proofs.Calls.CallsKeep.{propose-head, step-keeps, step-head}
+use Rattle.model.proofs.Calls.Refusals.{some-none, Board, board-of, OnBoard, station-of, index-inside, call-case}
+use Rattle.model.proofs.Calls.Refusals.{step-on}
 use Rattle.model.proofs.Calls.Accepted.{stepOn-access}
-use Rattle.model.proofs.Calls.Refused.{access-accepts}
-use Rattle.model.proofs.Agreement.State.{State, put, putWritten, proposing, moveOf, moving}
+use Rattle.model.proofs.Agreement.State.{putWritten, proposing, moveOf, moving}
 use Rattle.model.proofs.Bridge.View.{view, view-register, view-put-station, view-put-register}
 
 module _ (n K : ℕ) (b : List ℕ) (q : SoundBoard n K b) (i : ℕ) (own : i < n) (v : Figure) where
@@ -40,45 +40,49 @@ module _ (n K : ℕ) (b : List ℕ) (q : SoundBoard n K b) (i : ℕ) (own : i < 
   move-as (has-decided c x) h g = absurd h
   move-as (is-spent c x) h g = absurd h
 
-  write-view : (t : Turn) (c : ℕ) (x : Figure) → FitsStation (active v (writing t c x)) → GoodStage n K (writing t c x)
-      → view n K (access n K i v (writing t c x) b .bytes) ≡ moving figures n K i v (writing t c x) (view n K b)
-  unfolding GoodStage FitsStation FitsStage FitsSeen moving moveOf move placeArray placeColumn
-  write-view t c x fits g =
-      ap (view n K) (write-bytes n K i v b t c x)
-      ∙ view-put-station n K _ (register-length n K b (q .len) (array t c) inside i own (entry t c x)) i own (active v (reading t c x 0 nothing)) (fits .0, (fits .1, tt))
-      ∙ ap (λ (st : State Figure). record { station = put i (active v (reading t c x 0 nothing)) (st .station); register = st .register })
-      (view-put-register n K b (q .len) i own (array t c) (entry t c x) inside (entry-fits t c x (fits .1)))
-    where
-      inside : InBoard K (array t c)
-      inside = array-inside K t c g
-
-  read-view : (t : Turn) (c : ℕ) (x : Figure) (p : ℕ) (a : Seen Figure) → FitsStation (active v (reading t c x p a)) → SoundStation n K i b (active v (reading t c x p a))
-      → view n K (access n K i v (reading t c x p a) b .bytes) ≡ moving figures n K i v (reading t c x p a) (view n K b)
-  unfolding GoodStation FitsStation moving moveOf putWritten placeArray placeColumn
-  read-view t c x p a fits g =
-      ap (view n K) (read-bytes n K i v b t c x p a)
-      ∙ view-put-station n K b (q .len) i own (active v (met .stage))
-      (fits .0, move-fits n K (reading t c x p a) (registerOf n (array t c) p b) (fits .1) (readable n K b q i own v (reading t c x p a) g))
-      ∙ (λ k. record {
-        station = put i (active v (sym (move-as (reading t c x p a) tt (g .good)) k .stage)) (view n K b .station);
-        register = unwritten k;
-      })
-    where
-      met : Move Figure
-      met = move figures n K (reading t c x p a) (registerOf n (array t c) p b)
-
-      unwritten : view n K b .register ≡ putWritten (array t c) i (moveOf figures n K i (reading t c x p a) (view n K b) .written) (view n K b .register)
-      unwritten =
-          sym (ap (λ (w : Option (Register Figure)). putWritten (array t c) i w (view n K b .register))
-          (read-writes K figures n t c x p a (view n K b .register (array t c) p)))
-
   pub access-view : (s : Stage Figure) → Going s → FitsStation (active v s) → SoundStation n K i b (active v s)
       → view n K (access n K i v s b .bytes) ≡ moving figures n K i v s (view n K b)
-  unfolding GoodStation
-  access-view (writing t c x) h fits g = write-view t c x fits (g .good)
-  access-view (reading t c x p a) h fits g = read-view t c x p a fits g
+  unfolding GoodStation GoodStage FitsStation FitsStage FitsSeen moving moveOf putWritten placeArray placeColumn
+  access-view (writing t c x) h fits g =
+      let inside = array-inside K t c (g .good) in
+      let len = register-length n K b (q .len) (array t c) inside i own (entry t c x) in
+      rw (
+        write-bytes n K i v b t c x,
+        view-put-station n K _ len i own (active v (reading t c x 0 nothing)) (fits .0, (fits .1, tt)),
+        view-put-register n K b (q .len) i own (array t c) (entry t c x) inside (entry-fits t c x (fits .1)),
+      ) (unfold move in refl)
+  access-view (reading t c x p a) h fits g =
+      let m = move figures n K (reading t c x p a) (registerOf n (array t c) p b) in
+      let stays = move-fits n K (reading t c x p a) _ (fits .1) (readable n K b q i own v (reading t c x p a) g) in
+      rw (
+        read-bytes n K i v b t c x p a,
+        view-put-station n K b (q .len) i own (active v (m .stage)) (fits .0, stays),
+        view-register n K b (array t c) p (array-inside K t c (g .good .0)) (g .good .1),
+        read-writes K figures n t c x p a,
+      )
   access-view (has-decided c x) h fits g = absurd h
   access-view (is-spent c x) h fits g = absurd h
+
+-- a sound board of n and K
+pub record Ready (n K : ℕ) (b : List ℕ) : Type 0 where
+  pub board : Board b
+  pub isN : stations b ≡ n
+  pub isK : islands b ≡ K
+
+-- a sound board with that one's head
+still-ready : (n K : ℕ) (b d : List ℕ) → Ready n K b → Board d → ((k : ℕ) → k < 8 → byte d k ≡ byte b k) → Ready n K d
+unfolding stations islands
+still-ready n K b d r h e = record { board = h; isN = e 0 (lit< tt) ∙ r .isN; isK = e 1 (lit< tt) ∙ r .isK }
+
+pub step-ready : (n K i : ℕ) (b : List ℕ) → Ready n K b → Ready n K (step i b .bytes)
+step-ready n K i b r = still-ready n K b _ r (step-keeps i b (r .board)) (step-head i b (r .board))
+
+pub propose-ready : (n K i : ℕ) (v : Figure) (b : List ℕ) → Fits v → Ready n K b → Ready n K (propose i v b .bytes)
+propose-ready n K i v b fits r =
+    still-ready n K b _ r (propose-keeps i v fits b (r .board)) (propose-head i v b (r .board))
+
+by-head : {n K : ℕ} {b : List ℕ} (P : ℕ → ℕ → Type 0) → Ready n K b → P (stations b) (islands b) → P n K
+by-head P r = subst₂ P (r .isN) (r .isK)
 
 -- ---- an accepted proposal, which leaves the bytes d
 
@@ -93,18 +97,21 @@ unfolding notIdle
 idle-of idle e = refl
 idle-of (active v s) e = some-none 13 e
 
-pub propose-sim : (i : ℕ) (v : Figure) (b : List ℕ) → Fits v → Board b → propose i v b .answer ≡ none → ProposeSim (stations b) (islands b) i v b (propose i v b .bytes)
+pub propose-sim : (n K i : ℕ) (v : Figure) (b : List ℕ) → Fits v → Ready n K b → propose i v b .answer ≡ none
+    → ProposeSim n K i v b (propose i v b .bytes)
 unfolding propose stationAt proposing
-propose-sim i v b fits h =
-    call-case (λ (a : After Refusal). a .answer ≡ none → ProposeSim (stations b) (islands b) i v b (a .bytes)) _ some b _
+propose-sim n K i v b fits r a =
+    by-head (λ m L. ProposeSim m L i v b (propose i v b .bytes)) r
+    (call-case (λ d. d .answer ≡ none → ProposeSim (stations b) (islands b) i v b (d .bytes)) _ some b _
     (λ e f. let s = station-of i b _ (board-of b _ e .1) in
+    let own = index-inside i b (s .0) in
     record {
       positive = s .0 .low;
-      own = index-inside i b (s .0);
+      own = own;
       rests = idle-of (stationAt i b) (s .1);
-      after = view-put-station (stations b) (islands b) b (h .sound-board .len) (i - 1) (index-inside i b (s .0)) (proposed v) (proposed-fits v fits);
+      after = view-put-station _ _ b (r .board .sound-board .len) (i - 1) own (proposed v) (proposed-fits v fits);
     })
-    (λ k e f. some-none k f)
+    (λ k e f. some-none k f) a)
 
 -- ---- an accepted step, which gives the answer and bytes d
 
@@ -118,54 +125,47 @@ pub record StepSim (n K i : ℕ) (b : List ℕ) (d : After (Answer Figure)) : Ty
   pub after : view n K (d .bytes) ≡ moving figures n K (i - 1) proposal stage (view n K b)
   pub says : d .answer ≡ moveOf figures n K (i - 1) stage (view n K b) .answer
 
-stepped-sim : (i : ℕ) (b : List ℕ) → Board b → OnBoard i b → (z : Station Figure) → stationOf (stations b) (islands b) (i - 1) b ≡ z → notGoing z ≡ none
-    → StepSim (stations b) (islands b) i b (stepped (stations b) (islands b) (i - 1) z b)
-unfolding stepped access notGoing
-stepped-sim i b h on idle e g = some-none 14 g
-stepped-sim i b h on (active v s) e g = record {
-  positive = on .low;
-  own = own;
-  proposal = v;
-  stage = s;
-  stands = e;
-  goes = going;
-  after = access-view n K b q (i - 1) own v s going (subst FitsStation e (station-of-fits n K (i - 1) b)) here;
-  says = ap (λ (m : Move Figure). m .answer) (sym (move-as n K b q (i - 1) own v s going (good-stage n K v s (here .good))));
-}
+pub on-board : (n K i : ℕ) (b : List ℕ) → Ready n K b → 1 ≤ i → i - 1 < n → OnBoard i b
+on-board n K i b r low own = record { low = low; high = omega (arith, r .isN) }
+
+-- a station that stands at a going stage steps as the state does
+pub step-at : (n K i : ℕ) (b : List ℕ) → Ready n K b → 1 ≤ i → i - 1 < n → (v : Figure) (s : Stage Figure)
+    → stationOf n K (i - 1) b ≡ active v s → Going s
+    → (view n K (step i b .bytes) ≡ moving figures n K (i - 1) v s (view n K b))
+    × (step i b .answer ≡ moveOf figures n K (i - 1) s (view n K b) .answer)
+unfolding stationAt access
+step-at n K i b r low own v s e g =
+    let q : SoundBoard n K b = rw (r .isN, r .isK) at (r .board .sound-board) in
+    let here : stationOf (stations b) (islands b) (i - 1) b ≡ active v s = rw (r .isN, r .isK) e in
+    let access-on = stepOn-access i b (on-board n K i b r low own) v s here g in
+    let station : SoundStation n K (i - 1) b (active v s) = rw e at (sound-station n K b q (i - 1) own) in
+    rw (step-on i b (r .board), access-on, r .isN, r .isK) (
+      access-view n K b q (i - 1) own v s g (rw e at (station-of-fits n K (i - 1) b)) station,
+      rw (move-as n K b q (i - 1) own v s g (good-stage n K v s (station .good))),
+    )
+
+pub step-sim : (n K i : ℕ) (b : List ℕ) → Ready n K b → accepted (step i b .answer) ≡ true → StepSim n K i b (step i b)
+unfolding stepOn stationAt notGoing accepted outcome
+step-sim n K i b r a =
+    call-case (λ (d : After (Answer Figure)). accepted (d .answer) ≡ true → StepSim n K i b (step i b)) _ refused b
+    (stepped (stations b) (islands b) (i - 1) (stationAt i b) b)
+    (λ e f. let s = station-of i b (notGoing (stationAt i b)) e in
+    by (s .0) (stationOf n K (i - 1) b) refl (rw (r .isN, r .isK) at (s .1)))
+    (λ k e f. clash (sym f)) (rw (step-on i b (r .board)) at a)
   where
-    n : ℕ
-    n = stations b
-
-    K : ℕ
-    K = islands b
-
-    q : SoundBoard n K b
-    q = h .sound-board
-
-    own : i - 1 < n
-    own = index-inside i b on
-
-    going : Going s
-    going = going-of v s g
-
-    here : SoundStation n K (i - 1) b (active v s)
-    here = subst (SoundStation n K (i - 1) b) e (sound-station n K b q (i - 1) own)
-
-stepOn-sim : (i : ℕ) (b : List ℕ) → Board b → accepted (stepOn i b .answer) ≡ true → StepSim (stations b) (islands b) i b (stepOn i b)
-unfolding stepOn stationAt accepted
-stepOn-sim i b h =
-    call-case (λ (d : After (Answer Figure)). accepted (d .answer) ≡ true → StepSim (stations b) (islands b) i b d) (stationRefusal i b (notGoing (stationAt i b))) refused b _
-    (λ e f. let s = station-of i b _ e in stepped-sim i b h (s .0) (stationAt i b) refl (s .1)) (λ k e f. clash (sym f))
-
-pub step-sim : (i : ℕ) (b : List ℕ) → Board b → accepted (step i b .answer) ≡ true → StepSim (stations b) (islands b) i b (step i b)
-step-sim i b h a =
-    subst (StepSim (stations b) (islands b) i b) (sym (step-on i b h))
-    (stepOn-sim i b h (ap (λ (d : After (Answer Figure)). accepted (d .answer)) (sym (step-on i b h)) ∙ a))
-
--- A going station on a sound board is stepped.
-pub going-steps : (i : ℕ) (b : List ℕ) → Board b → OnBoard i b → (v : Figure) (s : Stage Figure)
-    → stationOf (stations b) (islands b) (i - 1) b ≡ active v s → Going s → accepted (step i b .answer) ≡ true
-unfolding stationAt
-going-steps i b h on v s e g =
-    ap (λ (d : After (Answer Figure)). accepted (d .answer)) (step-on i b h ∙ stepOn-access i b on v s e g)
-    ∙ access-accepts (stations b) (islands b) (i - 1) v s b g
+    by : OnBoard i b → (z : Station Figure) → stationOf n K (i - 1) b ≡ z → notGoing z ≡ none
+        → StepSim n K i b (step i b)
+    by on idle e g = some-none 14 g
+    by on (active v s) e g =
+        let own : i - 1 < n = omega (arith, r .isN, on .low, on .high) in
+        let (moved, told) = step-at n K i b r (on .low) own v s e (going-of v s g) in
+        record {
+          positive = on .low;
+          own = own;
+          proposal = v;
+          stage = s;
+          stands = e;
+          goes = going-of v s g;
+          after = moved;
+          says = told;
+        }

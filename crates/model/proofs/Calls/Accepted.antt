@@ -1,12 +1,10 @@
 -- A step of a going station on a sound board is one access.
 -- Relies on Refusals; the bridge to states and the code's step rely on it.
-use mathlib.Core.Path.{_≡_, refl, ap, _∙_}
-use mathlib.Core.List.{List}
-use mathlib.Core.Option.{none}
-use Prim.Native.Nat.{ℕ, _-_}
+use Rattle.model.proofs.Kit.{_≡_, refl, ap, _∙_, List, none, ℕ, _-_}
 use Rattle.model.specs.Figure.{Figure}
 use Rattle.model.specs.Listing.{Stage, writing, reading, has-decided, is-spent, Station, active, refused}
-use Rattle.model.specs.Calls.{Refusal, stations, islands, stationAt, unlessRefused, notGoing, access, stepped, stepOn}
+use Rattle.model.specs.Calls.{Refusal, stations, islands, stationAt, unlessRefused, notGoing, access, stepped}
+use Rattle.model.specs.Calls.{stepOn}
 use Rattle.model.proofs.Listing.Going.{Going}
 use Rattle.model.proofs.Calls.Refusals.{OnBoard, station-passes}
 
@@ -17,7 +15,8 @@ not-refused v (reading t c x p a) h = refl
 not-refused v (has-decided c x) h = absurd h
 not-refused v (is-spent c x) h = absurd h
 
-pub stepOn-access : (i : ℕ) (b : List ℕ) → OnBoard i b → (v : Figure) (s : Stage Figure) → stationAt i b ≡ active v s → Going s
+pub stepOn-access : (i : ℕ) (b : List ℕ) → OnBoard i b → (v : Figure) (s : Stage Figure) → stationAt i b ≡ active v s
+    → Going s
     → stepOn i b ≡ access (stations b) (islands b) (i - 1) v s b
 unfolding stepOn unlessRefused stepped
 stepOn-access i b on v s e g =

@@ -1,18 +1,17 @@
 -- The bytes after an accepted step: a write puts in its register and its record, a read its record alone.
 -- Relies on Written; whatever is shown of the bytes after a step relies on it.
-use mathlib.Core.Path.{_≡_, refl, ap}
-use mathlib.Core.List.{List}
-use mathlib.Core.Option.{Option, some}
-use Prim.Native.Nat.{ℕ}
+use Rattle.model.proofs.Kit.{_≡_, refl, ap, List, some, Option, ℕ}
 use Rattle.model.specs.Figure.{Figure, figures}
-use Rattle.model.specs.Listing.{Turn, Register, Seen, nothing, writing, reading, active, array, entry, move, placeArray, placeColumn}
+use Rattle.model.specs.Listing.{Turn, Register, Seen, nothing, writing, reading, active, array, entry, move}
+use Rattle.model.specs.Listing.{placeArray, placeColumn}
 use Rattle.model.specs.Layout.{registerOf}
 use Rattle.model.specs.Calls.{putStation, putRegister, access}
 use Rattle.model.proofs.Listing.Written.{read-writes}
 
 module _ (n K i : ℕ) (v : Figure) (b : List ℕ) where
   pub write-bytes : (t : Turn) (c : ℕ) (x : Figure)
-      → access n K i v (writing t c x) b .bytes ≡ putStation n K i (active v (reading t c x 0 nothing)) (putRegister n (array t c) i (some (entry t c x)) b)
+      → access n K i v (writing t c x) b .bytes
+      ≡ putStation n K i (active v (reading t c x 0 nothing)) (putRegister n (array t c) i (some (entry t c x)) b)
   unfolding access move placeArray placeColumn
   write-bytes t c x = refl
 
@@ -22,5 +21,6 @@ module _ (n K i : ℕ) (v : Figure) (b : List ℕ) where
   unfolding access placeArray placeColumn putRegister
   read-bytes t c x p a = ap
       (λ (w : Option (Register Figure)).
-      putStation n K i (active v (move figures n K (reading t c x p a) (registerOf n (array t c) p b) .stage)) (putRegister n (array t c) i w b))
+      putStation n K i (active v (move figures n K (reading t c x p a) (registerOf n (array t c) p b) .stage))
+      (putRegister n (array t c) i w b))
       (read-writes K figures n t c x p a (registerOf n (array t c) p b))

@@ -1,8 +1,6 @@
 -- The claims of specs/Claims.antt and specs/Runs.antt, each by its law.
 -- Relies on the laws of the calls; it is where a reader finds them proved.
-use mathlib.Core.List.{List}
-use mathlib.Core.Option.{none}
-use Prim.Native.Nat.{ℕ}
+use Rattle.model.proofs.Kit.{List, none, ℕ}
 use Rattle.model.specs.Figure.{figures}
 use Rattle.model.specs.Claims.{Unaltered, Passes, KeepSound, Local, OthersStay, AnswersTell}
 use Rattle.model.proofs.Board.Codec.{Fits}

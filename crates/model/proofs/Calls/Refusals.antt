@@ -1,20 +1,15 @@
 -- The refusals in checking order: what passing them says, and that they do not depend on what is asked later.
 -- Relies on the calls' definitions and SoundFacts; the laws of the calls rely on it, and so do the code's proofs.
-use mathlib.Core.Path.{_≡_, refl, sym, ap, _∙_}
-use mathlib.Core.Bool.{Bool, true, false, _&&_}
-use mathlib.Core.Logic.{_⊎_, inl, inr}
-use mathlib.Core.List.{List}
-use mathlib.Core.Option.{none, some}
-use Prim.Native.Nat.{ℕ, _-_, _≤_, _<_}
-use native.Mathlib.Omega.{arith}
-use lib.Dec.{T, eqb, leb, leb→le, le→leb, eqb→eq}
-use lib.ListN.{length}
-use borrow.Author.Tests.{lt-leb, ne-eqb}
-use Rattle.model.specs.Layout.{boardLength}
+use Rattle.model.proofs.Kit.{_≡_, refl, sym, ap, _∙_, Bool, true, false, _&&_, inl, inr, _⊎_, List, none, some}
+use Rattle.model.proofs.Kit.{ℕ, _-_, _≤_, _<_, le-leb, lt-leb, eq-eqb, ne-eqb, eqb, leb, le→leb, leb→le, T}
+use Rattle.model.proofs.Kit.{eqb→eq, length, arith}
+use Rattle.model.specs.Layout.{boardLength, freshBoard}
 use Rattle.model.specs.Sound.{sound}
-use Rattle.model.specs.Calls.{After, Refusal, unless, shapeRefusal, stations, islands, boardRefusal, stationRefusal, unlessRefused, stepOn, step}
+use Rattle.model.specs.Calls.{After, Refusal, unless, Ranges, ranges, shapeRefusal, stations, islands}
+use Rattle.model.specs.Calls.{boardRefusal}
+use Rattle.model.specs.Calls.{stationRefusal, unlessRefused, lay, stepOn, step}
 use Rattle.model.specs.Listing.{refused}
-use Rattle.model.proofs.Basics.Tests.{and-l, and-r, and-i, and-false, eq-T}
+use Rattle.model.proofs.Basics.Tests.{and-l, and-r, and-i, T-true, no-T}
 use Rattle.model.proofs.Board.SoundFacts.{SoundBoard, sound-facts, facts-sound}
 
 pub some-none : {A : Type 0} {X : Type 0} (k : A) → some k ≡ none → X
@@ -41,7 +36,15 @@ pub unless-fails : (t : Bool) (k : ℕ) (later : Refusal) → t ≡ false → un
 unfolding unless
 unless-fails t k later e = ap (λ (b : Bool). unless b k later) e
 
--- 7 to 10 are passed.
+-- A call is its refusal, with the bytes as they were, or what it does.
+pub call-case : {A : Type 0} (P : After A → Type 0) (r : Refusal) (turnDown : ℕ → A) (b : List ℕ) (ok : After A)
+    → (r ≡ none → P ok) → ((k : ℕ) → r ≡ some k → P (record { answer = turnDown k; bytes = b }))
+    → P (unlessRefused r turnDown b ok)
+unfolding unlessRefused
+call-case P none turnDown b ok f g = f refl
+call-case P (some k) turnDown b ok f g = g k refl
+
+-- 7 to 10 are passed, in 01's ranges.
 pub record Shape (n K : ℕ) (b : List ℕ) : Type 0 where
   pub long : 8 ≤ length b
   pub stations-low : 1 ≤ n
@@ -51,14 +54,40 @@ pub record Shape (n K : ℕ) (b : List ℕ) : Type 0 where
   pub len : length b ≡ boardLength n K
 
 pub within : (low high x : ℕ) → T (leb low x && leb x high) → (low ≤ x) × (x ≤ high)
-within low high x t = (leb→le low x (and-l (leb low x) (leb x high) t), leb→le x high (and-r (leb low x) (leb x high) t))
+within low high x t =
+    (leb→le low x (and-l (leb low x) (leb x high) t), leb→le x high (and-r (leb low x) (leb x high) t))
 
 pub within-T : (low high x : ℕ) → low ≤ x → x ≤ high → T (leb low x && leb x high)
 within-T low high x h l = and-i (leb low x) (leb x high) (le→leb low x h) (le→leb x high l)
 
+-- 7 to 10 as the code meets them: each fails after those before it have passed.
+module _ (asked : Ranges) (n K : ℕ) (b : List ℕ) (later : Refusal) where
+  pub shape-7 : length b < 8 → shapeRefusal asked n K b later ≡ some 7
+  unfolding shapeRefusal unless
+  shape-7 h = simp (lt-leb 8 (length b) h)
+
+  module _ (h : 8 ≤ length b) where
+    pub shape-8 : asked .stationsIn n ≡ false → shapeRefusal asked n K b later ≡ some 8
+    unfolding shapeRefusal unless
+    shape-8 s = simp (le-leb 8 (length b) h, s)
+
+    module _ (s : asked .stationsIn n ≡ true) where
+      pub shape-9 : asked .islandsIn K ≡ false → shapeRefusal asked n K b later ≡ some 9
+      unfolding shapeRefusal unless
+      shape-9 i = simp (le-leb 8 (length b) h, s, i)
+
+      module _ (i : asked .islandsIn K ≡ true) where
+        pub shape-10 : (length b ≡ boardLength n K → ⊥) → shapeRefusal asked n K b later ≡ some 10
+        unfolding shapeRefusal unless
+        shape-10 f = simp (le-leb 8 (length b) h, s, i, ne-eqb (length b) (boardLength n K) f)
+
+        pub shape-on : length b ≡ boardLength n K → shapeRefusal asked n K b later ≡ later
+        unfolding shapeRefusal unless
+        shape-on e = simp (le-leb 8 (length b) h, s, i, eq-eqb (length b) (boardLength n K) e)
+
 module _ (n K : ℕ) (b : List ℕ) where
-  pub shape-of : (later : Refusal) → shapeRefusal n K b later ≡ none → Shape n K b × (later ≡ none)
-  unfolding shapeRefusal
+  pub shape-of : (later : Refusal) → shapeRefusal ranges n K b later ≡ none → Shape n K b × (later ≡ none)
+  unfolding shapeRefusal ranges
   shape-of later e7 =
       let s7 = unless-none (leb 8 (length b)) 7 _ e7 in
       let s8 = unless-none (leb 1 n && leb n 16) 8 _ (s7 .1) in
@@ -75,50 +104,18 @@ module _ (n K : ℕ) (b : List ℕ) where
         s10 .1,
       )
 
-  pub shape-passes : Shape n K b → (later : Refusal) → shapeRefusal n K b later ≡ later
-  unfolding shapeRefusal
+  pub shape-passes : Shape n K b → (later : Refusal) → shapeRefusal ranges n K b later ≡ later
+  unfolding ranges
   shape-passes s later =
-      unless-passes (leb 8 (length b)) 7 _ (le→leb 8 (length b) (s .long))
-      ∙ unless-passes (leb 1 n && leb n 16) 8 _ (within-T 1 16 n (s .stations-low) (s .stations-high))
-      ∙ unless-passes (leb 2 K && leb K 64) 9 _ (within-T 2 64 K (s .islands-low) (s .islands-high))
-      ∙ unless-passes (eqb (length b) (boardLength n K)) 10 later (eq-T (length b) (boardLength n K) (s .len))
+      shape-on ranges n K b later (s .long) (T-true _ (within-T 1 16 n (s .stations-low) (s .stations-high)))
+      (T-true _ (within-T 2 64 K (s .islands-low) (s .islands-high))) (s .len)
 
--- A number outside its range, below it or above.
-outside-low : (low high x : ℕ) → x < low → leb low x && leb x high ≡ false
-outside-low low high x h = ap (λ (t : Bool). t && leb x high) (lt-leb low x h)
-
-outside-high : (low high x : ℕ) → high < x → leb low x && leb x high ≡ false
-outside-high low high x h = ap (λ (t : Bool). leb low x && t) (lt-leb x high h) ∙ and-false (leb low x)
-
--- 7 to 10 as the code meets them: each fails after those before it have passed.
-module _ (n K : ℕ) (b : List ℕ) (later : Refusal) where
-  pub shape-7 : length b < 8 → shapeRefusal n K b later ≡ some 7
-  unfolding shapeRefusal
-  shape-7 h = unless-fails (leb 8 (length b)) 7 _ (lt-leb 8 (length b) h)
-
-  after-7 : 8 ≤ length b → shapeRefusal n K b later ≡ unless (leb 1 n && leb n 16) 8 (unless (leb 2 K && leb K 64) 9 (unless (eqb (length b) (boardLength n K)) 10 later))
-  unfolding shapeRefusal
-  after-7 h = unless-passes (leb 8 (length b)) 7 _ (le→leb 8 (length b) h)
-
-  pub shape-8-low : 8 ≤ length b → n < 1 → shapeRefusal n K b later ≡ some 8
-  shape-8-low h l = after-7 h ∙ unless-fails (leb 1 n && leb n 16) 8 _ (outside-low 1 16 n l)
-
-  pub shape-8-high : 8 ≤ length b → 16 < n → shapeRefusal n K b later ≡ some 8
-  shape-8-high h l = after-7 h ∙ unless-fails (leb 1 n && leb n 16) 8 _ (outside-high 1 16 n l)
-
-  after-8 : 8 ≤ length b → 1 ≤ n → n ≤ 16 → shapeRefusal n K b later ≡ unless (leb 2 K && leb K 64) 9 (unless (eqb (length b) (boardLength n K)) 10 later)
-  after-8 h l m = after-7 h ∙ unless-passes (leb 1 n && leb n 16) 8 _ (within-T 1 16 n l m)
-
-  pub shape-9-low : 8 ≤ length b → 1 ≤ n → n ≤ 16 → K < 2 → shapeRefusal n K b later ≡ some 9
-  shape-9-low h l m k = after-8 h l m ∙ unless-fails (leb 2 K && leb K 64) 9 _ (outside-low 2 64 K k)
-
-  pub shape-9-high : 8 ≤ length b → 1 ≤ n → n ≤ 16 → 64 < K → shapeRefusal n K b later ≡ some 9
-  shape-9-high h l m k = after-8 h l m ∙ unless-fails (leb 2 K && leb K 64) 9 _ (outside-high 2 64 K k)
-
-  pub shape-10 : 8 ≤ length b → 1 ≤ n → n ≤ 16 → 2 ≤ K → K ≤ 64 → (length b ≡ boardLength n K → ⊥) → shapeRefusal n K b later ≡ some 10
-  shape-10 h l m k o f =
-      after-8 h l m ∙ unless-passes (leb 2 K && leb K 64) 9 _ (within-T 2 64 K k o)
-      ∙ unless-fails (eqb (length b) (boardLength n K)) 10 later (ne-eqb (length b) (boardLength n K) f)
+  -- an accepted laying was lent bytes of its shape and leaves a fresh board
+  pub laid-fresh : lay n K b .answer ≡ none → Shape n K b × (lay n K b .bytes ≡ freshBoard n K)
+  unfolding lay
+  laid-fresh =
+      call-case (λ (a : After Refusal). a .answer ≡ none → Shape n K b × (a .bytes ≡ freshBoard n K))
+      (shapeRefusal ranges n K b none) some b _ (λ e f. (shape-of none e .0, refl)) (λ k e f. some-none k f)
 
 -- 7 to 11 are passed: what every call but laying asks of a board.
 pub record Board (b : List ℕ) : Type 0 where
@@ -136,22 +133,30 @@ pub board-passes : (b : List ℕ) → Board b → (later : Refusal) → boardRef
 unfolding boardRefusal
 board-passes b h later =
     shape-passes (stations b) (islands b) b (h .shape) _
-    ∙ unless-passes (sound (stations b) (islands b) b) 11 later (facts-sound (stations b) (islands b) b (h .sound-board))
+    ∙ unless-passes (sound (stations b) (islands b) b) 11 later
+    (facts-sound (stations b) (islands b) b (h .sound-board))
 
 -- A refusal does not depend on what would have been asked later.
-unless-later : (t : Bool) (k : ℕ) (a b : Refusal) (j : ℕ) → (a ≡ some j → b ≡ some j) → unless t k a ≡ some j → unless t k b ≡ some j
+unless-later : (t : Bool) (k : ℕ) (a b : Refusal) (j : ℕ) → (a ≡ some j → b ≡ some j) → unless t k a ≡ some j
+    → unless t k b ≡ some j
 unfolding unless
 unless-later true k a b j f e = f e
 unless-later false k a b j f e = e
 
-pub board-first : (b : List ℕ) (later : Refusal) (k : ℕ) → boardRefusal b none ≡ some k → boardRefusal b later ≡ some k
-unfolding boardRefusal shapeRefusal
-board-first b later k =
+pub shape-first : (asked : Ranges) (n K : ℕ) (b : List ℕ) (sooner later : Refusal) (k : ℕ)
+    → (sooner ≡ some k → later ≡ some k) → shapeRefusal asked n K b sooner ≡ some k
+    → shapeRefusal asked n K b later ≡ some k
+unfolding shapeRefusal
+shape-first asked n K b sooner later k f =
     unless-later (leb 8 (length b)) 7 _ _ k
-    (unless-later (leb 1 (stations b) && leb (stations b) 16) 8 _ _ k
-    (unless-later (leb 2 (islands b) && leb (islands b) 64) 9 _ _ k
-    (unless-later (eqb (length b) (boardLength (stations b) (islands b))) 10 _ _ k
-    (unless-later (sound (stations b) (islands b) b) 11 none later k (λ e. some-none k (sym e))))))
+    (unless-later (asked .stationsIn n) 8 _ _ k
+    (unless-later (asked .islandsIn K) 9 _ _ k (unless-later (eqb (length b) (boardLength n K)) 10 sooner later k f)))
+
+pub board-first : (b : List ℕ) (later : Refusal) (k : ℕ) → boardRefusal b none ≡ some k → boardRefusal b later ≡ some k
+unfolding boardRefusal
+board-first b later k =
+    shape-first ranges (stations b) (islands b) b _ _ k
+    (unless-later (sound (stations b) (islands b) b) 11 none later k (λ e. some-none k (sym e)))
 
 -- 12 is passed: the station is on the board.
 pub record OnBoard (i : ℕ) (b : List ℕ) : Type 0 where
@@ -166,25 +171,18 @@ station-of i b later e =
 
 pub station-passes : (i : ℕ) (b : List ℕ) → OnBoard i b → (later : Refusal) → stationRefusal i b later ≡ later
 unfolding stationRefusal
-station-passes i b h later = unless-passes (leb 1 i && leb i (stations b)) 12 later (within-T 1 (stations b) i (h .low) (h .high))
+station-passes i b h later =
+    unless-passes (leb 1 i && leb i (stations b)) 12 later (within-T 1 (stations b) i (h .low) (h .high))
 
-pub station-12-low : (i : ℕ) (b : List ℕ) (later : Refusal) → i < 1 → stationRefusal i b later ≡ some 12
+pub station-12 : (i : ℕ) (b : List ℕ) (later : Refusal) → (1 ≤ i → i ≤ stations b → ⊥)
+    → stationRefusal i b later ≡ some 12
 unfolding stationRefusal
-station-12-low i b later h = unless-fails (leb 1 i && leb i (stations b)) 12 later (outside-low 1 (stations b) i h)
-
-pub station-12-high : (i : ℕ) (b : List ℕ) (later : Refusal) → stations b < i → stationRefusal i b later ≡ some 12
-unfolding stationRefusal
-station-12-high i b later h = unless-fails (leb 1 i && leb i (stations b)) 12 later (outside-high 1 (stations b) i h)
+station-12 i b later f =
+    unless-fails (leb 1 i && leb i (stations b)) 12 later
+    (no-T _ (λ t. let w = within 1 (stations b) i t in f (w .0) (w .1)))
 
 pub index-inside : (i : ℕ) (b : List ℕ) → OnBoard i b → i - 1 < stations b
 index-inside i b h = omega (arith, h .low, h .high)
-
--- A call is its refusal, with the bytes as they were, or what it does.
-pub call-case : {A : Type 0} (P : After A → Type 0) (r : Refusal) (turnDown : ℕ → A) (b : List ℕ) (ok : After A)
-    → (r ≡ none → P ok) → ((k : ℕ) → r ≡ some k → P (record { answer = turnDown k; bytes = b })) → P (unlessRefused r turnDown b ok)
-unfolding unlessRefused
-call-case P none turnDown b ok f g = f refl
-call-case P (some k) turnDown b ok f g = g k refl
 
 -- A step on a board known to be sound need not test it.
 pub step-on : (i : ℕ) (b : List ℕ) → Board b → step i b ≡ stepOn i b

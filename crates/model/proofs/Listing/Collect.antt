@@ -1,9 +1,7 @@
--- One read of a collect, for any kind of register, any type of figures and any order on them: its figure is one that it had
--- or met, once something is seen it stays so, and so the last read always leaves something seen.
+-- One read of a collect, for any kind of register, any type of figures and any order on them: its figure is one that it
+-- had or met, once something is seen it stays so, and so the last read always leaves something seen.
 -- Relies on the listing; that the calls keep a board sound, and the agreement's facts about one read, rely on it.
-use mathlib.Core.Path.{_≡_}
-use Prim.Native.Nat.{ℕ, _+_, _≤_, _<_}
-use native.Mathlib.Omega.{arith}
+use Rattle.model.proofs.Kit.{_≡_, ℕ, _+_, _≤_, _<_, arith}
 use Rattle.model.specs.Listing.{Order, Flag, adopt, commit, Turn, turnM, turnA, turnB, first, second, third}
 use Rattle.model.specs.Listing.{Register, empty, filled, Seen, nothing, seen, entry, larger, pairAbove, add, see}
 use Rattle.model.proofs.Basics.Tests.{cond-case}
@@ -54,7 +52,7 @@ module _ {F : Type 0} where
     add-shows P (turnB e) (seen second j x) commit k y h l = h tt
     add-shows P (turnB e) (seen third j x) f k y h l = h tt
 
-    add-sees : (t : Turn) (a : Seen F) (f : Flag) (k : ℕ) (y : F) → Something (add o t a f k y)
+    pub add-sees : (t : Turn) (a : Seen F) (f : Flag) (k : ℕ) (y : F) → Something (add o t a f k y)
     add-sees t a f k y = add-shows (λ (z : F). Unit {0}) t a f k y (λ s. s) tt
 
     pub filled-sees : (t : Turn) (a : Seen F) (r : Register F) → Filled r → Something (see o t a r)

@@ -1,11 +1,9 @@
 -- One read of a collect on figures: it keeps the seen fields in range, figures of 32 bits, and the station's own value,
 -- once seen, no higher than the best.
 -- Relies on Good, Collect and Order; Moves relies on it.
-use mathlib.Core.Path.{_≡_, refl, sym, subst}
-use mathlib.Core.Bool.{Bool, true, not}
+use Rattle.model.proofs.Kit.{_≡_, refl, sym, subst, Bool, true, not, ℕ, _<_, T}
 use mathlib.Core.Logic.{_↔_}
-use Prim.Native.Nat.{ℕ, _<_}
-use lib.Dec.{T, T-not, not-T}
+use lib.Dec.{T-not, not-T}
 use Rattle.model.specs.Figure.{Figure, figures, above}
 use Rattle.model.specs.Listing.{Flag, adopt, commit, Turn, turnM, turnA, turnB, Grade, first, second, third}
 use Rattle.model.specs.Listing.{Register, empty, filled, Seen, nothing, seen, entry, larger, pairAbove, add, see}
@@ -13,7 +11,7 @@ use Rattle.model.specs.Sound.{ownSeen}
 use Rattle.model.proofs.Basics.Tests.{true-T, cond-case}
 use Rattle.model.proofs.Board.Codec.{Fits, FitsRegister, FitsSeen}
 use Rattle.model.proofs.Board.Good.{GoodSeen}
-use Rattle.model.proofs.Listing.Collect.{Shows, Something, add-shows}
+use Rattle.model.proofs.Listing.Collect.{Shows, Something, add-shows, add-sees}
 use Rattle.model.proofs.Listing.Order.{above-irrefl, above-trans, strict, pair-irrefl, pair-trans}
 
 -- in m a filled register's island is below K; in A and B nothing is asked here
@@ -23,7 +21,8 @@ GoodRead K turnM (filled f k y) = k < K
 GoodRead K turnA (filled f k y) = Unit {0}
 GoodRead K (turnB e) (filled f k y) = Unit {0}
 
-m-grade : (K : ℕ) (g : Grade) (j k : ℕ) (x y : Figure) → GoodSeen K turnM (seen g j x) → k < K → GoodSeen K turnM (seen g k y)
+m-grade : (K : ℕ) (g : Grade) (j k : ℕ) (x y : Figure) → GoodSeen K turnM (seen g j x) → k < K
+    → GoodSeen K turnM (seen g k y)
 unfolding GoodSeen
 m-grade K first j k x y h l = l
 m-grade K second j k x y h l = h
@@ -34,10 +33,12 @@ add-good : (K : ℕ) (t : Turn) (a : Seen Figure) (f : Flag) (k : ℕ) (y : Figu
 unfolding GoodSeen GoodRead add
 add-good K turnM nothing f k y h l = l
 add-good K turnM (seen g j x) f k y h l =
-    cond-case (GoodSeen K turnM) (pairAbove figures k y j x) (seen g k y) (seen g j x) (λ e. m-grade K g j k x y h l) (λ e. h)
+    cond-case (GoodSeen K turnM) (pairAbove figures k y j x) (seen g k y) (seen g j x) (λ e. m-grade K g j k x y h l)
+    (λ e. h)
 add-good K turnA nothing f k y h l = refl
 add-good K turnA (seen first j x) f k y h l =
-    cond-case (λ (g : Grade). GoodSeen K turnA (seen g j (larger figures x y))) (figures .same x y) first second (λ e. h) (λ e. h)
+    cond-case (λ (g : Grade). GoodSeen K turnA (seen g j (larger figures x y))) (figures .same x y) first second
+    (λ e. h) (λ e. h)
 add-good K turnA (seen second j x) f k y h l = h
 add-good K turnA (seen third j x) f k y h l = h
 add-good K (turnB e) nothing adopt k y h l = refl
@@ -48,7 +49,8 @@ add-good K (turnB e) (seen second j x) adopt k y h l = h
 add-good K (turnB e) (seen second j x) commit k y h l = h
 add-good K (turnB e) (seen third j x) f k y h l = h
 
-pub see-good : (K : ℕ) (t : Turn) (a : Seen Figure) (r : Register Figure) → GoodSeen K t a → GoodRead K t r → GoodSeen K t (see figures t a r)
+pub see-good : (K : ℕ) (t : Turn) (a : Seen Figure) (r : Register Figure) → GoodSeen K t a → GoodRead K t r
+    → GoodSeen K t (see figures t a r)
 unfolding see
 see-good K t a empty h l = h
 see-good K t a (filled f k y) h l = add-good K t a f k y h l
@@ -60,7 +62,8 @@ unfolding FitsSeen
 fits-shown nothing = (λ h s. absurd s, λ h. tt)
 fits-shown (seen g k y) = (λ h s. h, λ h. h tt)
 
-pub see-fits : (t : Turn) (a : Seen Figure) (r : Register Figure) → FitsSeen a → FitsRegister r → FitsSeen (see figures t a r)
+pub see-fits : (t : Turn) (a : Seen Figure) (r : Register Figure) → FitsSeen a → FitsRegister r
+    → FitsSeen (see figures t a r)
 unfolding see FitsRegister
 see-fits t a empty h l = h
 see-fits t a (filled f k y) h l = fits-shown _ .1 (λ s. add-shows figures Fits t a f k y (fits-shown a .0 h) l)
@@ -70,7 +73,8 @@ see-fits t a (filled f k y) h l = fits-shown _ .1 (λ s. add-shows figures Fits 
 keep-pair : (c : ℕ) (x : Figure) (k : ℕ) (y : Figure) (j : ℕ) (z : Figure)
     → T (not (pairAbove figures c x k y)) → pairAbove figures j z k y ≡ true → T (not (pairAbove figures c x j z))
 keep-pair c x k y j z h e =
-    not-T (pairAbove figures c x j z) (λ t. T-not (pairAbove figures c x k y) h (pair-trans figures strict c x j z k y t (true-T _ e)))
+    not-T (pairAbove figures c x j z) (λ t. T-not (pairAbove figures c x k y) h
+    (pair-trans figures strict c x j z k y t (true-T _ e)))
 
 meet-pair : (c : ℕ) (x : Figure) → T (not (pairAbove figures c x c x))
 meet-pair c x = not-T (pairAbove figures c x c x) (pair-irrefl figures strict c x)
@@ -87,6 +91,16 @@ meet-larger x y =
     cond-case (λ (w : Figure). T (not (above x w))) (above x y) x y (λ e. not-T (above x x) (above-irrefl x))
     (λ e. subst (λ (t : Bool). T (not t)) (sym e) tt)
 
+-- in B it is enough that something was seen
+own-any : (e : Flag) (c : ℕ) (x : Figure) (a : Seen Figure) (f : Flag) (k : ℕ) (y : Figure)
+    → T (ownSeen (turnB e) c x (add figures (turnB e) a f k y))
+unfolding ownSeen
+own-any e c x a f k y = go (add figures (turnB e) a f k y) (add-sees figures (turnB e) a f k y)
+  where
+    go : (b : Seen Figure) → Something b → T (ownSeen (turnB e) c x b)
+    go nothing h = absurd h
+    go (seen g j z) h = tt
+
 own-add : (t : Turn) (c : ℕ) (x : Figure) (a : Seen Figure) (f : Flag) (k : ℕ) (y : Figure)
     → T (ownSeen t c x a) → T (ownSeen t c x (add figures t a f k y))
 unfolding ownSeen add
@@ -97,11 +111,7 @@ own-add turnM c x (seen g j z) f k y h =
 own-add turnA c x (seen first j z) f k y h = own-larger x z y h
 own-add turnA c x (seen second j z) f k y h = own-larger x z y h
 own-add turnA c x (seen third j z) f k y h = own-larger x z y h
-own-add (turnB e) c x (seen first j z) adopt k y h = tt
-own-add (turnB e) c x (seen first j z) commit k y h = tt
-own-add (turnB e) c x (seen second j z) adopt k y h = tt
-own-add (turnB e) c x (seen second j z) commit k y h = tt
-own-add (turnB e) c x (seen third j z) f k y h = tt
+own-add (turnB e) c x (seen g j z) f k y h = own-any e c x (seen g j z) f k y
 
 pub own-kept : (t : Turn) (c : ℕ) (x : Figure) (a : Seen Figure) (r : Register Figure)
     → T (ownSeen t c x a) → T (ownSeen t c x (see figures t a r))
@@ -120,11 +130,4 @@ own-met turnA c x nothing = not-T (figures .above x x) (above-irrefl x)
 own-met turnA c x (seen first j z) = meet-larger x z
 own-met turnA c x (seen second j z) = meet-larger x z
 own-met turnA c x (seen third j z) = meet-larger x z
-own-met (turnB adopt) c x nothing = tt
-own-met (turnB commit) c x nothing = tt
-own-met (turnB adopt) c x (seen first j z) = tt
-own-met (turnB adopt) c x (seen second j z) = tt
-own-met (turnB adopt) c x (seen third j z) = tt
-own-met (turnB commit) c x (seen first j z) = tt
-own-met (turnB commit) c x (seen second j z) = tt
-own-met (turnB commit) c x (seen third j z) = tt
+own-met (turnB f) c x a = own-any f c x a f 0 x

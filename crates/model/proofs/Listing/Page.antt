@@ -1,73 +1,45 @@
--- The n single reads of a collect end as the listing's lines do on the values that they met, for any n, any kind of register and
--- any strict total order of figures; and the lines leave nothing open.
+-- The n single reads of a collect end as the listing's lines do on the values that they met, for any n, any kind of
+-- register and any strict total order of figures; and the lines leave nothing open.
 -- Relies on Met; it proves the claims of specs/Collects.antt.
-use mathlib.Core.Path.{_≡_, refl, sym, ap, _∙_, subst}
-use mathlib.Core.Bool.{false}
-use mathlib.Core.List.{List, [], _∷_, _++_, map}
-use mathlib.Core.Logic.{inl, inr}
-use mathlib.Core.Option.{none}
-use Prim.Native.Nat.{ℕ, _+_, _<_}
-use native.Mathlib.Omega.{arith}
-use lib.ListN.{length}
-use borrow.Author.Tests.{lt-ltb, le-ltb}
+use Rattle.model.proofs.Kit.{_≡_, refl, sym, ap, _∙_, false, inl, inr, List, [], _∷_, _++_, map, none, ℕ, suc}
+use Rattle.model.proofs.Kit.{_+_, _<_, lt-ltb, le-ltb, length, arith}
 use Rattle.model.specs.Figure.{figures}
-use Rattle.model.specs.Listing.{Order, Flag, adopt, commit, flagNumber, Register, empty, filled, Turn, turnM, turnA, turnB, first, second, third, Seen, nothing, seen}
-use Rattle.model.specs.Listing.{Stage, writing, reading, Move, stay, finish, ended, see, move, read, went, marked}
-use Rattle.model.specs.Collects.{_∈_, without⊥, inMax, inSA, inSB, SomeFilled, firstCommit, Strict, above₂, ReadMax, LinesA, line8, line9, LinesB, line12, line13, line14}
-use Rattle.model.specs.Collects.{returned, Ends, through, AllRead, Collects, Leave}
+use Rattle.model.specs.Listing.{Order, Flag, adopt, commit, Register, empty, filled, Turn, turnM, turnA, turnB}
+use Rattle.model.specs.Listing.{first, second, third, Seen, nothing, seen, reading, stay, finish, ended, see}
+use Rattle.model.specs.Listing.{move}
+use Rattle.model.specs.Collects.{_∈_, without⊥, inMax, inSA, inSB, SomeFilled, firstCommit, Strict, above₂}
+use Rattle.model.specs.Collects.{ReadMax, LinesA, line8, line9, LinesB, line12, line13, line14, returned, Ends}
+use Rattle.model.specs.Collects.{through, AllRead, Collects, Leave}
+use Rattle.model.proofs.Basics.Tests.{impossible}
 use Rattle.model.proofs.Listing.Sets.{two-not-only, max-unique}
 use Rattle.model.proofs.Listing.Order.{pair-total, strict}
 use Rattle.model.proofs.Listing.Met.{AboutM, AboutA, AboutB, About, figure, flags-differ, sees, all-read}
 
 -- one filled register shows whatever is asked of it
-none-held : {F A B : Type 0} (held : Flag → ℕ → F → A) (other : Flag → ℕ → F → B) (rs : List (Register F)) → without⊥ held rs ≡ [] → without⊥ other rs ≡ []
+none-held : {F A B : Type 0} (held : Flag → ℕ → F → A) (other : Flag → ℕ → F → B) (rs : List (Register F))
+    → without⊥ held rs ≡ [] → without⊥ other rs ≡ []
 unfolding without⊥
 none-held held other [] e = refl
 none-held held other (empty ∷ rs) e = none-held held other rs e
-none-held held other (filled f k y ∷ rs) e = absurd (let z : _≡_ {A = ℕ} 0 1 = cc in omega arith)
+none-held held other (filled f k y ∷ rs) e = impossible (cc)
 
 module _ {F : Type 0} (o : Order F) (s : Strict o) where
   -- ---- the reads
 
   module _ (n K : ℕ) (t : Turn) (c : ℕ) (x : F) where
-    goes-on : (p : ℕ) (a : Seen F) (r : Register F) → p + 1 < n → move o n K (reading t c x p a) r ≡ stay (reading t c x (p + 1) (see o t a r)) read
-    unfolding move
-    goes-on p a r h = rw (lt-ltb (p + 1) n h)
-
-    ends-here : (p : ℕ) (a : Seen F) (r : Register F) → p + 1 ≡ n → move o n K (reading t c x p a) r ≡ ended K t c x (see o t a r)
-    unfolding move
-    ends-here p a r h = rw (le-ltb (p + 1) n (omega arith))
-
     -- the registers rs are read from position p on, none of them the last
-    Passes : (p : ℕ) (a : Seen F) (rs : List (Register F)) → Type 0
-    Passes p a rs =
-        AllRead o n K (reading t c x p a) rs × (through o n K (reading t c x p a) rs ≡ reading t c x (p + length rs) (sees o s t a rs))
+    passing : (p : ℕ) (a : Seen F) (rs : List (Register F)) → p + length rs < n
+        → AllRead o n K (reading t c x p a) rs
+        × (through o n K (reading t c x p a) rs ≡ reading t c x (p + length rs) (sees o s t a rs))
+    unfolding AllRead through move stay sees
+    passing p a [] h = let e : p + 0 ≡ p = omega arith in (tt, rw e)
+    passing p a (r ∷ rs) h =
+        let rest = passing (p + 1) (see o t a r) rs (omega arith) in
+        let on : p + suc (length rs) ≡ p + 1 + length rs = omega arith in
+        rw (lt-ltb (p + 1) n (omega arith), on) ((refl, refl, rest .0), rest .1)
 
-    pass-more : (p : ℕ) (a : Seen F) (r : Register F) (rs : List (Register F)) → p + 1 < n → Passes (p + 1) (see o t a r) rs → Passes p a (r ∷ rs)
-    unfolding Passes AllRead through sees stay
-    pass-more p a r rs h rest = (
-      (ap (λ (m : Move F). m .answer) e, ap (λ (m : Move F). m .written) e, subst (λ (q : Stage F). AllRead o n K q rs) (sym there) (rest .0)),
-      ap (λ (q : Stage F). through o n K q rs) there ∙ rest .1 ∙ (λ i. reading t c x (one-more i) (sees o s t (see o t a r) rs)),
-    )
-      where
-        e : move o n K (reading t c x p a) r ≡ stay (reading t c x (p + 1) (see o t a r)) read
-        e = goes-on p a r h
-
-        there : move o n K (reading t c x p a) r .stage ≡ reading t c x (p + 1) (see o t a r)
-        there = ap (λ (m : Move F). m .stage) e
-
-        one-more : p + 1 + length rs ≡ p + length (r ∷ rs)
-        one-more = omega arith
-
-    passing : (p : ℕ) (a : Seen F) (rs : List (Register F)) → p + length rs < n → Passes p a rs
-    unfolding Passes AllRead through sees
-    passing p a [] h = (tt, λ i. reading t c x (zero-more i) a)
-      where
-        zero-more : p ≡ p + 0
-        zero-more = omega arith
-    passing p a (r ∷ rs) h = pass-more p a r rs (omega arith) (passing (p + 1) (see o t a r) rs (omega arith))
-
-  sees-last : (t : Turn) (a : Seen F) (rs : List (Register F)) (r : Register F) → see o t (sees o s t a rs) r ≡ sees o s t a (rs ++ (r ∷ []))
+  sees-last : (t : Turn) (a : Seen F) (rs : List (Register F)) (r : Register F)
+      → see o t (sees o s t a rs) r ≡ sees o s t a (rs ++ (r ∷ []))
   unfolding sees
   sees-last t a [] r = refl
   sees-last t a (q ∷ rs) r = sees-last t (see o t a q) rs r
@@ -86,21 +58,19 @@ module _ {F : Type 0} (o : Order F) (s : Strict o) where
     ends (turnB e) nothing h = absurd (some-filled (none-held _ _ rs h))
     ends (turnB e) (seen first k y) h = (adopt, y, line14 refl (h .0) (h .2), refl)
     ends (turnB e) (seen second k y) h = (commit, y, line12 refl (h .1), refl)
-    ends (turnB e) (seen third k y) h = (adopt, y, line13 refl (λ w. two-not-only (inSB rs) (h .1) (commit, w)) (h .0), refl)
+    ends (turnB e) (seen third k y) h =
+        (adopt, y, line13 refl (λ w. two-not-only (inSB rs) (h .1) (commit, w)) (h .0), refl)
 
-  -- Of n single reads from position 0 with nothing seen, the first n − 1 answer *read*, and the last ends as the lines do.
+  -- Of n single reads from position 0 with nothing seen the first n − 1 answer *read*, and the last ends as the lines
+  -- do.
   pub collects : Collects o
-  unfolding Collects Passes
-  collects n K t c x rs r h some-filled = (
-    passing n K t c x 0 nothing rs (omega arith) .0,
-    subst (Ends o K (rs ++ (r ∷ [])) c t) (sym last) (ends K (rs ++ (r ∷ [])) c x some-filled t _ (all-read o s t (rs ++ (r ∷ [])))),
-  )
-    where
-      last : move o n K (through o n K (reading t c x 0 nothing) rs) r ≡ ended K t c x (sees o s t nothing (rs ++ (r ∷ [])))
-      last =
-          ap (λ (q : Stage F). move o n K q r) (passing n K t c x 0 nothing rs (omega arith) .1)
-          ∙ ends-here n K t c x (0 + length rs) (sees o s t nothing rs) r (omega arith)
-          ∙ ap (ended K t c x) (sees-last t nothing rs r)
+  unfolding Collects move
+  collects n K t c x rs r h some-filled =
+      let p = passing n K t c x 0 nothing rs (omega arith) in (
+        p .0,
+        rw (p .1, le-ltb (0 + length rs + 1) n (omega arith), sees-last)
+            (ends K (rs ++ (r ∷ [])) c x some-filled t _ (all-read o s t (rs ++ (r ∷ [])))),
+      )
 
   -- ---- nothing is left open
 
@@ -116,7 +86,7 @@ module _ {F : Type 0} (o : Order F) (s : Strict o) where
   commit-found [] v h e = h
   commit-found ((adopt, y) ∷ S) v (inl q) e = flags-differ y v (sym q)
   commit-found ((adopt, y) ∷ S) v (inr h) e = commit-found S v h e
-  commit-found ((commit, y) ∷ S) v h e = absurd (let z : _≡_ {A = ℕ} 0 1 = cc in omega arith)
+  commit-found ((commit, y) ∷ S) v h e = impossible (cc)
 
   lines-b : (S : List (Flag × F)) (f g : Flag) (v w : F) → LinesB o S f v → LinesB o S g w → (f ≡ g) × (v ≡ w)
   unfolding figure
@@ -125,9 +95,9 @@ module _ {F : Type 0} (o : Order F) (s : Strict o) where
   lines-b S f g v w (line12 p h) (line14 q k m) = absurd (commit-found S v (h .among) k)
   lines-b S f g v w (line13 p h l) (line12 q k) = absurd (h w k)
   lines-b S f g v w (line13 p h l) (line13 q k m) = (p ∙ sym q, cc)
-  lines-b S f g v w (line13 p h l) (line14 q k m) = absurd (let z : _≡_ {A = ℕ} 0 1 = cc in omega arith)
+  lines-b S f g v w (line13 p h l) (line14 q k m) = impossible (cc)
   lines-b S f g v w (line14 p h l) (line12 q k) = absurd (commit-found S w (k .among) h)
-  lines-b S f g v w (line14 p h l) (line13 q k m) = absurd (let z : _≡_ {A = ℕ} 0 1 = cc in omega arith)
+  lines-b S f g v w (line14 p h l) (line13 q k m) = impossible (cc)
   lines-b S f g v w (line14 p h l) (line14 q k m) = (p ∙ sym q, max-unique (o .above) (s .total) (map figure S) v w l m)
 
   pairs-total : (p q : ℕ × F) → above₂ o p q ≡ false → above₂ o q p ≡ false → p ≡ q
@@ -139,13 +109,10 @@ module _ {F : Type 0} (o : Order F) (s : Strict o) where
   unfolding Leave Ends ReadMax
   leave K rs c turnM m m' (k, v, h, e) (j, w, l, f) =
       let q = max-unique (above₂ o) pairs-total (inMax rs) (k, v) (j, w) h l in
-      e ∙ (λ i. stay (writing turnA (q i .0) (q i .1)) (went (q i .0) (q i .1))) ∙ sym f
-  leave K rs c turnA m m' (f, v, h, e) (g, w, l, d) =
-      let q = lines-a (inSA rs) f g v w h l in
-      e ∙ (λ i. stay (writing (turnB (q .0 i)) c (q .1 i)) (marked (flagNumber (q .0 i)) (q .1 i))) ∙ sym d
-  leave K rs c (turnB b) m m' (f, v, h, e) (g, w, l, d) =
-      let q = lines-b (inSB rs) f g v w h l in
-      e ∙ (λ i. returned o K c (q .0 i) (q .1 i)) ∙ sym d
+      let p : k ≡ j = ap (λ (z : ℕ × F). z .0) q in
+      let d : v ≡ w = ap (λ (z : ℕ × F). z .1) q in cc
+  leave K rs c turnA m m' (f, v, h, e) (g, w, l, d) = let q = lines-a (inSA rs) f g v w h l in cc
+  leave K rs c (turnB b) m m' (f, v, h, e) (g, w, l, d) = let q = lines-b (inSB rs) f g v w h l in cc
 
 -- The lines' claims of the figures of a board.
 pub figures-collect : Collects figures

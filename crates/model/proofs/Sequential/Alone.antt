@@ -1,19 +1,19 @@
 -- One station alone, as equations between runs: each kind of step, the whole collect, and the turn of the loop that is
 -- a write and a collect. Each holds for any number of stations and any kind of register.
 -- Relies on the definition of a run and on what a collect has seen; the passes rely on it.
-use mathlib.Core.Path.{_≡_, refl, ap, _∙_}
-use mathlib.Core.Option.{Option, none}
-use Prim.Native.Nat.{ℕ, zero, suc, _+_, _-_, _<_}
-use native.Mathlib.Nat.{add-suc, suc-add, zero-add}
-use native.Mathlib.Numerals.{add-one}
-use native.Mathlib.Omega.{arith}
-use lib.Dec.{ltb}
-use borrow.Author.Tests.{lt-ltb, le-ltb}
-use Rattle.model.specs.Listing.{Order, Register, Turn, turnM, turnA, turnB, Grade, first, second, third, Seen, nothing, seen, Stage, writing, reading, Station, active, read, Move, array, placeArray, placeColumn, entry, proposed, stay, onward, finish, ended, see, move}
+use Rattle.model.proofs.Kit.{_≡_, refl, ap, _∙_, Option, ℕ, zero, suc, _+_, _-_, _<_, zero-add, add-one, arith}
+use native.Mathlib.Nat.{add-suc, suc-add}
+use Rattle.model.specs.Listing.{Order, Register, Turn, turnM, Grade, Seen, nothing, seen, Stage, writing, reading}
+use Rattle.model.specs.Listing.{Station, active, Move, array, placeArray, placeColumn, entry, proposed, stay}
+use Rattle.model.specs.Listing.{finish}
+use Rattle.model.specs.Listing.{outcome, ended, see, move}
+use Rattle.model.proofs.Listing.Cases.{read-on, read-last}
+use Rattle.model.proofs.Listing.Written.{ended-writes}
 use Rattle.model.proofs.Agreement.Cells.{put-put}
 use Rattle.model.proofs.Agreement.State.{State, put, put-same, putWritten, proposing, moveOf, moving}
+use Rattle.model.specs.AnyList.{ends}
 use Rattle.model.proofs.Sequential.Turns.{Ended, goOn, stepOnce, stepUntil}
-use Rattle.model.proofs.Sequential.Registers.{either, Registers, write, write-at}
+use Rattle.model.proofs.Sequential.Registers.{Registers, write, write-at}
 use Rattle.model.proofs.Sequential.Collected.{collected}
 
 -- the steps of k turns of the loop, and fuel more
@@ -30,38 +30,6 @@ module _ {F : Type 0} where
       → proposing i v st ≡ alone i v (st .station) (writing turnM 0 v) (st .register)
   unfolding proposing proposed alone
   proposing-alone i v st = refl
-
-  onward-writes-nothing : (K c : ℕ) (x : F) → onward K c x .written ≡ none
-  unfolding onward stay
-  onward-writes-nothing K c x = either (λ (m : Move F). m .written ≡ none) (ltb (c + 1) K) refl refl
-
-  finish-writes-nothing : (K : ℕ) (t : Turn) (c : ℕ) (g : Grade) (k : ℕ) (y : F) → finish K t c g k y .written ≡ none
-  unfolding finish stay
-  finish-writes-nothing K turnM c g k y = refl
-  finish-writes-nothing K turnA c first k y = refl
-  finish-writes-nothing K turnA c second k y = refl
-  finish-writes-nothing K turnA c third k y = refl
-  finish-writes-nothing K (turnB f) c first k y = onward-writes-nothing K c y
-  finish-writes-nothing K (turnB f) c second k y = refl
-  finish-writes-nothing K (turnB f) c third k y = onward-writes-nothing K c y
-
-  ended-writes-nothing : (K : ℕ) (t : Turn) (c : ℕ) (x : F) (a : Seen F) → ended K t c x a .written ≡ none
-  unfolding ended
-  ended-writes-nothing K t c x nothing = finish-writes-nothing K t c third c x
-  ended-writes-nothing K t c x (seen g k y) = finish-writes-nothing K t c g k y
-
-  module _ (o : Order F) (n K : ℕ) (t : Turn) (c : ℕ) (x : F) where
-    -- A read before the last answers `read` and goes on to the next register.
-    pub read-on : (p : ℕ) (a : Seen F) (r : Register F) → suc p < n
-        → move o n K (reading t c x p a) r ≡ stay (reading t c x (suc p) (see o t a r)) read
-    unfolding move
-    read-on p a r l = rw (add-one, lt-ltb (suc p) n l)
-
-    -- The last one ends the collect.
-    pub read-last : (p : ℕ) (a : Seen F) (r : Register F) → suc p ≡ n
-        → move o n K (reading t c x p a) r ≡ ended K t c x (see o t a r)
-    unfolding move
-    read-last p a r e = rw (add-one, le-ltb (suc p) n (omega arith))
 
   module _ (o : Order F) (n K i : ℕ) (v : F) (others : ℕ → Station F) where
     -- the rest of the run after a move of station i that left the registers so
@@ -86,15 +54,16 @@ module _ {F : Type 0} where
     step-write : (fuel : ℕ) (t : Turn) (c : ℕ) (x : F) (f : Registers F)
         → stepUntil o n K (suc fuel) i (alone i v others (writing t c x) f)
         ≡ stepUntil o n K fuel i (alone i v others (reading t c x 0 nothing) (write (array t c) i (entry t c x) f))
-    unfolding settle goOn move placeArray
+    unfolding settle goOn ends outcome move placeArray
     step-write fuel t c x f = one-step fuel (writing t c x) f _ refl
 
     module _ (t : Turn) (c : ℕ) (x : F) (f : Registers F) where
       step-read : (fuel p : ℕ) (a : Seen F) → suc p < n
           → stepUntil o n K (suc fuel) i (alone i v others (reading t c x p a) f)
           ≡ stepUntil o n K fuel i (alone i v others (reading t c x (suc p) (see o t a (f (array t c) p))) f)
-      unfolding settle goOn placeArray placeColumn stay putWritten
-      step-read fuel p a l = one-step fuel (reading t c x p a) f _ (read-on o n K t c x p a (f (array t c) p) l)
+      unfolding settle goOn ends outcome placeArray placeColumn stay putWritten
+      step-read fuel p a l = one-step fuel (reading t c x p a) f _
+          (rw add-one at (read-on o n K t c x p a (f (array t c) p) (omega arith)))
 
       step-last : (fuel p : ℕ) (a : Seen F) → suc p ≡ n
           → stepUntil o n K (suc fuel) i (alone i v others (reading t c x p a) f)
@@ -102,9 +71,10 @@ module _ {F : Type 0} where
       unfolding placeArray placeColumn putWritten
       step-last fuel p a e =
           let b : Seen F = see o t a (f (array t c) p) in
-          one-step fuel (reading t c x p a) f (ended K t c x b) (read-last o n K t c x p a (f (array t c) p) e)
+          one-step fuel (reading t c x p a) f (ended K t c x b)
+          (read-last o n K t c x p a (f (array t c) p) (omega arith))
           ∙ ap (λ (w : Option (Register F)). settle fuel (ended K t c x b) (putWritten (array t c) i w f))
-          (ended-writes-nothing K t c x b)
+          (ended-writes K t c x b)
 
       -- The first p reads, with p < n: registers 0 to p - 1 in their order. Only the station's record changes.
       pub reads : (fuel p : ℕ) → p < n

@@ -1,12 +1,10 @@
 -- What the registers hold between two turns of a sequential run: Low, and later perhaps High; and how the writes of a
 -- turn keep them. Relies on the registers' predicates and on writes; the turn of one station relies on it.
-use mathlib.Core.Path.{_≡_, refl, _∙_}
-use mathlib.Core.Logic.{_⊎_}
-use Prim.Native.Nat.{ℕ, _≤_, _<_}
-use native.Mathlib.Omega.{arith}
+use Rattle.model.proofs.Kit.{_≡_, refl, _∙_, _⊎_, ℕ, _≤_, _<_, arith}
 use Rattle.model.specs.Listing.{adopt, commit, empty, filled, inM, inA, inB}
 use Rattle.model.proofs.Agreement.State.{put, put-same, put-other, sameArray, putWritten}
-use Rattle.model.proofs.Sequential.Registers.{Registers, All, Figure, Commit, all-map, all-put, two-stations, write}
+use Rattle.model.proofs.Sequential.Registers.{Registers, All, Figure, Commit, all-map, all-put, two-stations}
+use Rattle.model.proofs.Sequential.Registers.{write}
 
 module _ {F : Type 0} where
   -- of a pair in m: it is on island 0; it is on an island up to 1, and there it is v

@@ -1,12 +1,8 @@
 -- What a collect has seen once it has read the registers of an array in order, for any kind of register: how a property
 -- of that is had from the single reads, and the facts about one read carried over the whole collect.
--- Relies on the listing and on those facts; what the collects of m, A and B end with, and the station alone, rely on it.
-use mathlib.Core.Path.{_≡_, subst}
-use mathlib.Core.Bool.{true}
-use mathlib.Core.Logic.{_⊎_, ⊎-elim}
-use Prim.Native.Nat.{ℕ, zero, suc, _<_}
-use native.Mathlib.Decide.{ℕ-discrete}
-use native.Mathlib.Omega.{arith}
+-- Relies on the listing and on those facts; what the collects of m, A and B end with, and the station alone, rely on
+-- it.
+use Rattle.model.proofs.Kit.{_≡_, subst, true, ⊎-elim, _⊎_, ℕ, zero, suc, _<_, ℕ-discrete, arith}
 use Rattle.model.specs.Listing.{Order, Flag, commit, Register, Turn, turnB, Seen, nothing, array, see}
 use Rattle.model.proofs.Agreement.Registers.{Says, Marked, Figure, Best, Met, Left, Brought, Clean, Harmless}
 use Rattle.model.proofs.Agreement.Reads.{located, met, clean, stays-clean}

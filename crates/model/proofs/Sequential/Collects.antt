@@ -1,11 +1,9 @@
 -- What the collects of a station alone end with: in m the best pair that was passed; in A one figure or different ones;
 -- in B commits of one figure only, or a commit beside an adopt.
 -- Relies on what any collect shows; the passes rely on it.
-use mathlib.Core.Path.{_≡_, refl, sym, ap, subst₂}
-use mathlib.Core.Bool.{true}
-use Prim.Native.Nat.{ℕ, _≤_, _<_}
-use native.Mathlib.Omega.{arith}
-use Rattle.model.specs.Listing.{Order, Flag, adopt, commit, Register, empty, filled, turnM, turnA, turnB, Grade, first, second, third, Seen, nothing, seen, inM, array}
+use Rattle.model.proofs.Kit.{_≡_, refl, sym, ap, subst₂, true, ℕ, _≤_, _<_, arith}
+use Rattle.model.specs.Listing.{Order, Flag, adopt, commit, Register, empty, filled, turnM, turnA, turnB, Grade}
+use Rattle.model.specs.Listing.{first, second, third, Seen, nothing, seen, inM, array}
 use Rattle.model.proofs.Agreement.Registers.{Says, Marked, Best, Met, Brought, Clean, Holds, adopt≢commit}
 use Rattle.model.proofs.Agreement.Registers.{Figure as Stands}
 use Rattle.model.proofs.Sequential.Registers.{All, Figure, Commit, IfCommit}

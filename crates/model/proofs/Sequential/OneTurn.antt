@@ -1,16 +1,14 @@
 -- The turn of one station alone: the first one decides its own proposal v, and every one after it decides v too.
 -- Relies on the passes and on Low and High; the sequential run relies on it.
-use mathlib.Core.Path.{_≡_, refl}
-use mathlib.Core.Bool.{Bool, true, false}
-use mathlib.Core.Logic.{inl, inr}
-use Prim.Native.Nat.{ℕ, _+_, _*_, _-_, _≤_, _<_}
-use native.Mathlib.Omega.{arith}
-use Rattle.model.specs.Listing.{Order, adopt, empty, filled, turnM, turnA, Stage, writing, has-decided, idle, active, decided, Array, inM, inA, inB}
+use Rattle.model.proofs.Kit.{_≡_, refl, Bool, true, false, inl, inr, ℕ, _+_, _-_, _≤_, _<_, _*_, arith}
+use Rattle.model.specs.Listing.{Order, adopt, empty, filled, turnM, turnA, Stage, writing, has-decided, idle}
+use Rattle.model.specs.Listing.{active, decided, Array, inM, inA, inB}
 use Rattle.model.proofs.Agreement.State.{State, initial, put, put-same, put-other, sameArray, putWritten}
 use Rattle.model.proofs.Sequential.Turns.{Ended, turn}
 use Rattle.model.proofs.Sequential.Registers.{Registers, all-put, two-stations, write, Apart, apart-write}
 use Rattle.model.proofs.Sequential.Alone.{loops, alone, proposing-alone}
-use Rattle.model.proofs.Sequential.Between.{OnZero, UpToOne, OnlyLow, Low, High, Between, only-low-m, low-m, high-m, low-after, high-first, high-after}
+use Rattle.model.proofs.Sequential.Between.{OnZero, UpToOne, OnlyLow, Low, High, Between, only-low-m, low-m}
+use Rattle.model.proofs.Sequential.Between.{high-m, low-after, high-first, high-after}
 use Rattle.model.proofs.Sequential.Pass.{run, Sent, pass-m, pass-two-figures, pass-beside-adopt, pass-agreed}
 
 module _ {F : Type 0} where

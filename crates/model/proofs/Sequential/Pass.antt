@@ -1,18 +1,18 @@
 -- The turns of a pass of a station alone, as equations between runs: the collect of m; A and B where they have only v;
 -- A where v stands and the station brings another figure; B where the commit of v stands and it brings an adopt.
 -- Relies on the loop's turn alone and on what the collects end with; the turn of one station relies on it.
-use mathlib.Core.Path.{_≡_, refl, ap, _∙_}
-use mathlib.Core.Bool.{true}
-use Prim.Native.Nat.{ℕ, _+_, _≤_, _<_}
-use native.Mathlib.Omega.{arith}
-use borrow.Author.Tests.{lt-ltb}
-use Rattle.model.specs.Listing.{Order, Flag, adopt, commit, flagNumber, Register, filled, turnM, turnA, turnB, Grade, first, second, third, seen, Stage, writing, has-decided, Station, decided, marked, adopted, inM, inA, inB, Move, array, entry, stay, onward, finish}
+use Rattle.model.proofs.Kit.{_≡_, refl, ap, _∙_, true, ℕ, _+_, _≤_, _<_, lt-ltb, arith}
+use Rattle.model.specs.Listing.{Order, Flag, adopt, commit, flagNumber, Register, filled, turnM, turnA, turnB}
+use Rattle.model.specs.Listing.{Grade, first, second, third, seen, Stage, writing, has-decided, Station, decided}
+use Rattle.model.specs.Listing.{marked, adopted, inM, inA, inB, Move, outcome, array, entry, stay, onward, finish}
 use Rattle.model.proofs.Agreement.Registers.{adopt≢commit}
 use Rattle.model.proofs.Agreement.State.{put, put-same, put-other, sameArray, putWritten}
+use Rattle.model.specs.AnyList.{ends}
 use Rattle.model.proofs.Sequential.Turns.{Ended, goOn, stepUntil}
 use Rattle.model.proofs.Sequential.Registers.{Registers, All, Figure, Commit, IfCommit, all-put, all-map, write}
 use Rattle.model.proofs.Sequential.Collected.{collected}
-use Rattle.model.proofs.Sequential.Collects.{Found, Different, best, two-figures, beside-adopt, one-figure, only-commits}
+use Rattle.model.proofs.Sequential.Collects.{Found, Different, best, two-figures, beside-adopt, one-figure}
+use Rattle.model.proofs.Sequential.Collects.{only-commits}
 use Rattle.model.proofs.Sequential.Alone.{loops, alone, settle, loop-turn}
 
 marks-adopt : {F : Type 0} (K c : ℕ) (g : Grade) (k : ℕ) (y : F) → Different g
@@ -46,7 +46,7 @@ module _ {F : Type 0} (o : Order F) (n K i : ℕ) (below : i < n) (w : F) (other
         → All n (λ e. Q) (put i (filled adopt c x) (f inM))
         → (j : ℕ) → j < n → (e : Flag) (l : ℕ) (y : F) → put i (filled adopt c x) (f inM) j ≡ filled e l y
         → Sent Q l fuel c x f
-    unfolding settle goOn finish stay entry array
+    unfolding settle goOn ends outcome finish stay entry array
     pass-m Q fuel c x f all j b e l y at =
         let r : ℕ → Register F = put i (filled adopt c x) (f inM) in
         let s : Found (λ g k z. (l ≤ k) × Q k z) (collected o turnM r n) = best o sameIs r n Q all j b e l y at in
@@ -63,10 +63,11 @@ module _ {F : Type 0} (o : Order F) (n K i : ℕ) (below : i < n) (w : F) (other
         → (j : ℕ) → j < n → (i ≡ j → ⊥) → f (inB c) j ≡ filled commit 0 v
         → run (loops n 1 fuel) (writing (turnB adopt) c z) f
         ≡ run fuel (writing turnM (c + 1) v) (write (inB c) i (filled adopt 0 z) f)
-    unfolding settle goOn finish stay entry array
+    unfolding settle goOn ends outcome finish stay entry array
     pass-beside-adopt fuel c f v z l all j b ne at =
         let r : ℕ → Register F = put i (filled adopt 0 z) (f (inB c)) in
-        let allIf : All n (IfCommit v) (f (inB c)) = all-map n (Commit v) (IfCommit v) (λ e k y h d. h .1) (f (inB c)) all in
+        let allIf : All n (IfCommit v) (f (inB c)) = all-map n (Commit v) (IfCommit v) (λ e k y h d. h .1)
+        (f (inB c)) all in
         let q : (k : ℕ) × (collected o (turnB adopt) r n ≡ seen third k v) =
         beside-adopt o sameIs r n v
         (all-put n (IfCommit v) i adopt 0 z (f (inB c)) (λ d. absurd (adopt≢commit d)) allIf)
@@ -79,7 +80,7 @@ module _ {F : Type 0} (o : Order F) (n K i : ℕ) (below : i < n) (w : F) (other
         → (j : ℕ) → j < n → (i ≡ j → ⊥) → f (inA c) j ≡ filled adopt 0 v
         → (z : F) × (run (loops n 1 fuel) (writing turnA c y) f
         ≡ run fuel (writing (turnB adopt) c z) (write (inA c) i (filled adopt 0 y) f))
-    unfolding settle goOn stay entry array
+    unfolding settle goOn ends outcome stay entry array
     pass-two-figures v fuel c f y other j b ne at =
         let r : ℕ → Register F = put i (filled adopt 0 y) (f (inA c)) in
         let p : Found (λ g k x. Different g) (collected o turnA r n) =
@@ -101,7 +102,7 @@ module _ {F : Type 0} (o : Order F) (n K i : ℕ) (below : i < n) (w : F) (other
                 (write (inB c) i (filled commit 0 v) (write (inA c) i (filled adopt 0 v) f));
             answer = decided c v;
           }
-      unfolding settle goOn finish stay entry array putWritten sameArray
+      unfolding settle goOn ends outcome finish stay entry array putWritten sameArray
       pass-agreed fuel c f allA allB =
           let ra : ℕ → Register F = put i (filled adopt 0 v) (f (inA c)) in
           let rb : ℕ → Register F = put i (filled commit 0 v) (f (inB c)) in
@@ -109,7 +110,8 @@ module _ {F : Type 0} (o : Order F) (n K i : ℕ) (below : i < n) (w : F) (other
           one-figure o sameIs ra n sameRefl v i below (all-put n (Figure v) i adopt 0 v (f (inA c)) refl allA)
           (rw (put-same i (filled adopt 0 v) (f (inA c))) refl) in
           let q : (k : ℕ) × (collected o (turnB commit) rb n ≡ seen second k v) =
-          only-commits o sameIs rb n sameRefl v i below (all-put n (Commit v) i commit 0 v (f (inB c)) (refl, refl) allB)
+          only-commits o sameIs rb n sameRefl v i below
+          (all-put n (Commit v) i commit 0 v (f (inB c)) (refl, refl) allB)
           (rw (put-same i (filled commit 0 v) (f (inB c))) (refl, refl)) in
           loop-turn o n K i w others turnA c v f first (p .0) v (loops n 1 fuel) (omega arith) (p .1)
           ∙ loop-turn o n K i w others (turnB commit) c v (write (inA c) i (filled adopt 0 v) f)

@@ -1,20 +1,11 @@
 -- Predicates of the registers of an array, and what a write by one station changes of them.
 -- Relies on the state and on the words for registers; what a collect sees and the states between turns rely on it.
-use mathlib.Core.Path.{_≡_, _∙_}
-use mathlib.Core.Bool.{Bool, cond, _&&_}
-use mathlib.Core.Option.{some}
-use Prim.Native.Nat.{ℕ, _<_}
-use native.Mathlib.Omega.{arith}
-use lib.Dec.{eqb}
+use Rattle.model.proofs.Kit.{_≡_, _∙_, cond, _&&_, some, ℕ, _<_, eqb, arith}
 use Rattle.model.specs.Listing.{Flag, commit, Register, empty, filled, turnA, turnB, Array}
 use Rattle.model.proofs.Basics.Tests.{cond-case}
 use Rattle.model.proofs.Agreement.Registers.{Holds, Agrees}
 use Rattle.model.proofs.Agreement.Cells.{written-elsewhere}
 use Rattle.model.proofs.Agreement.State.{put, array-self, putWritten}
-
--- a choice of two has what both have
-pub either : {A : Type 0} (P : A → Type 0) (t : Bool) {x y : A} → P x → P y → P (cond t x y)
-either P t {x} {y} px py = cond-case P t x y (λ e. px) (λ e. py)
 
 abbrev pub Registers : Type 0 → Type 0
 Registers F = Array → ℕ → Register F
@@ -46,7 +37,7 @@ module _ {F : Type 0} where
   pub all-put : (n : ℕ) (Q : Flag → ℕ → F → Type 0) (i : ℕ) (f : Flag) (k : ℕ) (y : F) (r : ℕ → Register F)
       → Q f k y → All n Q r → All n Q (put i (filled f k y) r)
   unfolding put
-  all-put n Q i f k y r q all j l = either (Holds Q) (eqb i j) q (all j l)
+  all-put n Q i f k y r q all j l = cond-case (Holds Q) (eqb i j) _ _ (λ _. q) (λ _. all j l)
 
   -- an empty register and a filled one are of two stations
   pub two-stations : (r : ℕ → Register F) (i j : ℕ) (f : Flag) (k : ℕ) (y : F)

@@ -1,11 +1,7 @@
 -- The sequential order: where each station of a list ends its turn before the next proposes, every one decides the
 -- figure that the first proposed, and 6(n + 1) steps a turn are enough.
 -- Relies on the turn of one station; it is demand 3's claim on the sequential order.
-use mathlib.Core.Path.{_≡_, refl, _∙_}
-use mathlib.Core.Bool.{true}
-use mathlib.Core.List.{List, [], _∷_}
-use Prim.Native.Nat.{ℕ, _+_, _*_, _≤_, _<_}
-use native.Mathlib.Omega.{arith}
+use Rattle.model.proofs.Kit.{_≡_, refl, _∙_, true, List, [], _∷_, ℕ, _+_, _≤_, _<_, _*_, arith}
 use Rattle.model.specs.Listing.{Order, Answer, decided}
 use Rattle.model.proofs.Agreement.State.{State, initial}
 use Rattle.model.proofs.Sequential.Turns.{Ended, turn, answers}

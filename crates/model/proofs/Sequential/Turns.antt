@@ -1,8 +1,8 @@
 -- One station stepped until it ends, its turn, and the sequential run: each of a list proposes and ends before the
 -- next. Definitions only, over the state and its two calls; the theorem on the sequential order states them.
-use mathlib.Core.List.{List, [], _∷_}
-use Prim.Native.Nat.{ℕ, zero, suc}
-use Rattle.model.specs.Listing.{Order, Station, idle, active, Answer, wrote, read, went, marked, adopted, decided, spent, refused}
+use Rattle.model.proofs.Kit.{cond, List, [], _∷_, ℕ, zero, suc}
+use Rattle.model.specs.Listing.{Order, Station, idle, active, Answer, refused}
+use Rattle.model.specs.AnyList.{ends}
 use Rattle.model.proofs.Agreement.State.{State, proposing, moveOf, moving}
 
 -- where a run of steps left the state, and the answer that ended it
@@ -13,14 +13,7 @@ pub record Ended (F : Type 0) : Type 0 where
 module _ {F : Type 0} where
   -- after a step that answered so: decided, spent and a refusal end the run, and any other answer lets it go on
   unfoldable pub goOn : State F → Answer F → (State F → Ended F) → Ended F
-  goOn st wrote again = again st
-  goOn st read again = again st
-  goOn st (went c x) again = again st
-  goOn st (marked f x) again = again st
-  goOn st (adopted c x) again = again st
-  goOn st (decided c x) again = record { state = st; answer = decided c x }
-  goOn st (spent c x) again = record { state = st; answer = spent c x }
-  goOn st (refused k) again = record { state = st; answer = refused k }
+  goOn st a again = cond (ends a) (record { state = st; answer = a }) (again st)
 
   module _ (o : Order F) (n K : ℕ) where
     -- one step of station i with the record r, and then what comes after it

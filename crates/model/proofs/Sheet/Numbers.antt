@@ -1,22 +1,14 @@
 -- Numbers and figures as they are written: a reader finds in them that number or figure, and what follows.
 -- Relies on decimals; that the reader finds every written form relies on it.
-use mathlib.Core.Path.{_≡_, refl, sym, ap, _∙_}
-use mathlib.Core.Bool.{true, false, _&&_}
-use mathlib.Core.Logic.{⊎-elim}
-use mathlib.Core.List.{List, [], _∷_, _++_, append-assoc}
-use mathlib.Core.Option.{Option, some}
-use Prim.Native.Nat.{ℕ, zero, suc, _+_, _*_, _/_, _%_, _^_, _≤_, _<_}
+use Rattle.model.proofs.Kit.{_≡_, refl, sym, ap, _∙_, true, false, _&&_, ⊎-elim, List, [], _∷_, _++_}
+use Rattle.model.proofs.Kit.{append-assoc, some, Option, ℕ, zero, suc, _+_, _≤_, _<_, _/_, _%_, _*_, ne-eqb, eqb}
+use Rattle.model.proofs.Kit.{leb, ltb, lit<, pos, negsuc, w32, SFits, arith}
+use Prim.Native.Nat.{_^_}
 use native.Mathlib.Nat.{pow-suc, mod-eq-of-lt, mod-lt}
-use native.Mathlib.Omega.{arith}
-use lib.Dec.{eqb, leb, ltb, lit<}
-use lib.IntN.{pos, negsuc}
-use mir.Syntax.{w32}
-use mir.Val.{SFits}
-use borrow.Author.Tests.{ne-eqb}
 use Rattle.model.specs.Bytes.{byte}
 use Rattle.model.specs.Figure.{Figure}
 use Rattle.model.specs.Show.{textFrom, text, decimalIn, decimal, signed}
-use Rattle.model.specs.Forms.{Read, found, andThen, digit, digitsFrom, natural, number, figureIn}
+use Rattle.model.specs.Forms.{Read, found, andThen, digit, digitsFrom, natural, numberIn, figureIn}
 use Rattle.model.proofs.Basics.Tests.{T-true, clash, cond-case}
 use Rattle.model.proofs.Basics.Decimals.{last-digit, in-one, in-more, below-ten}
 use Rattle.model.proofs.Calls.Refusals.{within-T}
@@ -25,7 +17,8 @@ use Rattle.model.proofs.Calls.Refusals.{within-T}
 unfoldable pub Stops : List ℕ → Type 0
 Stops rest = digit (byte rest 0) ≡ false
 
-pub then-found : {A B : Type 0} {o : Option (Read A)} {a : A} {rest : List ℕ} (go : A → List ℕ → Option B) → o ≡ found a rest
+pub then-found : {A B : Type 0} {o : Option (Read A)} {a : A} {rest : List ℕ} (go : A → List ℕ → Option B)
+    → o ≡ found a rest
     → andThen o go ≡ go a rest
 unfolding andThen found
 then-found go e = ap (λ (o : Option (Read _)). andThen o go) e
@@ -46,9 +39,12 @@ one-begins x rest = is-digit (x % 10) (mod-lt x (lit< tt))
 -- a number begins with a digit
 begins : (k x : ℕ) (rest : List ℕ) → digit (byte (decimalIn (suc k) x ++ rest) 0) ≡ true
 unfolding decimalIn
-begins zero x rest = cond-case (λ (d : List ℕ). digit (byte (d ++ last-digit x ++ rest) 0) ≡ true) (ltb x 10) [] [] (λ e. one-begins x rest) (λ e. one-begins x rest)
+begins zero x rest =
+    cond-case (λ (d : List ℕ). digit (byte (d ++ last-digit x ++ rest) 0) ≡ true) (ltb x 10) [] []
+    (λ e. one-begins x rest) (λ e. one-begins x rest)
 begins (suc k) x rest =
-    cond-case (λ (d : List ℕ). digit (byte (d ++ last-digit x ++ rest) 0) ≡ true) (ltb x 10) [] _ (λ e. one-begins x rest)
+    cond-case (λ (d : List ℕ). digit (byte (d ++ last-digit x ++ rest) 0) ≡ true) (ltb x 10) [] _
+    (λ e. one-begins x rest)
     (λ e. rw append-assoc (begins k (x / 10) (last-digit x ++ rest)))
 
 pub decimal-begins : (x : ℕ) (rest : List ℕ) → digit (byte (decimal x ++ rest) 0) ≡ true
@@ -66,9 +62,11 @@ unfolding digitsFrom
 next-digit v d rest h = rw (is-digit d h) (ap (λ (w : ℕ). digitsFrom w rest) (omega arith))
 
 -- the digits of x read, more may follow
-digits-read : (k x : ℕ) → 1 ≤ x → x < 10 ^ suc k → (rest : List ℕ) → natural (decimalIn (suc k) x ++ rest) ≡ some (digitsFrom x rest)
+digits-read : (k x : ℕ) → 1 ≤ x → x < 10 ^ suc k → (rest : List ℕ)
+    → natural (decimalIn (suc k) x ++ rest) ≡ some (digitsFrom x rest)
 digits-read zero x p h rest =
-    ap (λ (d : List ℕ). natural (d ++ rest)) (in-one 0 x (omega arith) ∙ ap (λ (d : ℕ). (48 + d) ∷ []) (mod-eq-of-lt (omega arith)))
+    ap (λ (d : List ℕ). natural (d ++ rest))
+    (in-one 0 x (omega arith) ∙ ap (λ (d : ℕ). (48 + d) ∷ []) (mod-eq-of-lt (omega arith)))
     ∙ one-digit x rest p (omega arith)
 digits-read (suc k) x p h rest =
     ⊎-elim
@@ -88,21 +86,25 @@ unfolding digitsFrom found Stops
 stopped v [] s = refl
 stopped v (b ∷ l) s = rw s
 
-pub natural-decimal : (x : ℕ) → x < 10000000000 → (rest : List ℕ) → Stops rest → natural (decimal x ++ rest) ≡ found x rest
+pub natural-decimal : (x : ℕ) → x < 10000000000 → (rest : List ℕ) → Stops rest
+    → natural (decimal x ++ rest) ≡ found x rest
 unfolding decimal decimalIn natural
 natural-decimal zero h rest s = refl
 natural-decimal (suc x) h rest s = digits-read 9 (suc x) (omega arith) (omega arith) rest ∙ stopped (suc x) rest s
 
 pub number-decimal : (low high x : ℕ) → low ≤ x → x ≤ high → high < 10000000000 → (rest : List ℕ) → Stops rest
-    → number low high (decimal x ++ rest) ≡ found x rest
-unfolding number
-number-decimal low high x h l b rest s = then-found _ (natural-decimal x (omega arith) rest s) ∙ rw (T-true (leb low x && leb x high) (within-T low high x h l))
+    → numberIn low high (decimal x ++ rest) ≡ found x rest
+unfolding numberIn
+number-decimal low high x h l b rest s =
+    then-found _ (natural-decimal x (omega arith) rest s)
+    ∙ rw (T-true (leb low x && leb x high) (within-T low high x h l))
 
 not-minus : digit 45 ≡ false
 unfolding digit
 not-minus = refl
 
-pub figure-signed : (v : Figure) → SFits w32 v → (rest : List ℕ) → Stops rest → figureIn (signed v ++ rest) ≡ found v rest
+pub figure-signed : (v : Figure) → SFits w32 v → (rest : List ℕ) → Stops rest
+    → figureIn (signed v ++ rest) ≡ found v rest
 unfolding figureIn signed text textFrom
 figure-signed (pos x) h rest s =
     rw (digit-not (byte (decimal x ++ rest) 0) 45 (decimal-begins x rest) not-minus)

@@ -1,10 +1,6 @@
 -- What a reader gives, if it gives anything, and how that is known of readers put together.
 -- Relies on the forms; that the readers take nothing but the written grammar relies on it.
-use mathlib.Core.Path.{_≡_}
-use mathlib.Core.Bool.{Bool, true, cond}
-use mathlib.Core.List.{List}
-use mathlib.Core.Option.{Option, none, some}
-use Prim.Native.Nat.{ℕ}
+use Rattle.model.proofs.Kit.{_≡_, Bool, true, cond, List, none, some, Option, ℕ}
 use Rattle.model.specs.Forms.{Read, andThen}
 use Rattle.model.proofs.Basics.Tests.{cond-case}
 
@@ -18,13 +14,15 @@ unfolding Always
 always-map P Q none f h = tt
 always-map P Q (some a) f h = f a h
 
-pub always-then : {A B : Type 0} (Q : Read A → Type 0) (P : B → Type 0) (o : Option (Read A)) (go : A → List ℕ → Option B)
+pub always-then : {A B : Type 0} (Q : Read A → Type 0) (P : B → Type 0) (o : Option (Read A))
+    (go : A → List ℕ → Option B)
     → Always Q o → ((r : Read A) → Q r → Always P (go (r .value) (r .rest))) → Always P (andThen o go)
 unfolding Always andThen
 always-then Q P none go h f = tt
 always-then Q P (some r) go h f = f r h
 
 -- where the test fails nothing is given
-pub always-if : {A : Type 0} (P : A → Type 0) (t : Bool) (o : Option A) → (t ≡ true → Always P o) → Always P (cond t o none)
+pub always-if : {A : Type 0} (P : A → Type 0) (t : Bool) (o : Option A) → (t ≡ true → Always P o)
+    → Always P (cond t o none)
 unfolding Always
 always-if P t o f = cond-case (Always P) t o none f (λ e. tt)

@@ -1,24 +1,23 @@
 -- The reader finds in a form written out by 01's grammar that form.
 -- Relies on the grammar and on the reading of its numbers; WrittenBack has the other direction.
-use mathlib.Core.Path.{_≡_, refl, ap, _∙_}
-use mathlib.Core.Bool.{false}
-use mathlib.Core.List.{List, [], _∷_, _++_, append-assoc}
-use mathlib.Core.Option.{some}
-use Prim.Native.Nat.{ℕ, zero, suc, _+_, _≤_, _<_}
-use native.Mathlib.Omega.{arith}
-use lib.Dec.{lit<}
-use lib.ListN.{length, length-append}
+use Rattle.model.proofs.Kit.{_≡_, refl, ap, _∙_, false, List, [], _∷_, _++_, append-assoc, some, ℕ, zero, suc}
+use Rattle.model.proofs.Kit.{_+_, _≤_, _<_, lit<, length, length-append, arith}
 use Rattle.model.specs.Bytes.{byte}
 use Rattle.model.specs.Show.{textFrom, text, decimalIn, decimal}
-use Rattle.model.specs.Forms.{Item, station, times, Items, done, next, board, propose, steps, show, found, spaced, digit, number}
-use Rattle.model.specs.Forms.{behind, timesIn, itemIn, itemsIn, same, wordOf, upToStop, firstWord, closing, stepsWord, formAfter, formIn}
-use Rattle.model.specs.Grammar.{writtenItem, writtenItems, written, AtLeastOne, ItemInRange, ItemsInRange, InRange, ReadsWritten}
-use Rattle.model.proofs.Sheet.Numbers.{Stops, then-found, digit-not, decimal-begins, number-decimal, figure-signed}
+use Rattle.model.specs.Forms.{Item, station, times, Items, done, next, board, propose, steps, show, found, spaced}
+use Rattle.model.specs.Forms.{digit, numberIn}
+use Rattle.model.specs.Forms.{behind, timesIn, itemIn, itemsIn, same, closing, boardRow, proposeRow, stepsRow}
+use Rattle.model.specs.Forms.{showRow}
+use Rattle.model.specs.Forms.{wordRows, rowIn, upToStop, firstWord, wordPlace, formIn}
+use Rattle.model.specs.Grammar.{writtenItem, writtenItems, written, AtLeastOne, ItemInRange, ItemsInRange}
+use Rattle.model.specs.Grammar.{InRange, ReadsWritten}
+use Rattle.model.proofs.Sheet.Numbers.{Stops, then-found, digit-not, decimal-begins, number-decimal}
+use Rattle.model.proofs.Sheet.Numbers.{figure-signed}
 
 -- ---- what is read of a written form
 
 -- a number of the sheet, 0 to 99
-station-read : (i : ℕ) → i ≤ 99 → (rest : List ℕ) → Stops rest → number 0 99 (decimal i ++ rest) ≡ found i rest
+station-read : (i : ℕ) → i ≤ 99 → (rest : List ℕ) → Stops rest → numberIn 0 99 (decimal i ++ rest) ≡ found i rest
 station-read i h rest s = number-decimal 0 99 i (omega arith) h (lit< tt) rest s
 
 bracket-stops : (rest : List ℕ) → Stops (41 ∷ rest)
@@ -36,10 +35,12 @@ items-stop done rest = bracket-stops rest
 items-stop (next i is) rest = space-stops _
 
 times-read : (k : ℕ) → 1 ≤ k → k ≤ 99999 → (is : Items) → AtLeastOne is → (rest : List ℕ)
-    → timesIn (text "(times " ++ (decimal k ++ (writtenItems is ++ (41 ∷ rest)))) ≡ found k (writtenItems is ++ (41 ∷ rest))
+    → timesIn (text "(times " ++ (decimal k ++ (writtenItems is ++ (41 ∷ rest)))) ≡ found k
+    (writtenItems is ++ (41 ∷ rest))
 unfolding timesIn behind text textFrom AtLeastOne writtenItems
 times-read k h l done o rest = absurd o
-times-read k h l (next i is) o rest = then-found _ (number-decimal 1 99999 k h l (lit< tt) _ (items-stop (next i is) rest))
+times-read k h l (next i is) o rest =
+    then-found _ (number-decimal 1 99999 k h l (lit< tt) _ (items-stop (next i is) rest))
 
 -- one item, given that the items inside it are read
 
@@ -47,23 +48,29 @@ not-bracket : digit 40 ≡ false
 unfolding digit
 not-bracket = refl
 
-station-item : (i fuel : ℕ) → i ≤ 99 → (rest : List ℕ) → Stops rest → itemIn (suc fuel) (decimal i ++ rest) ≡ found (station i) rest
+station-item : (i fuel : ℕ) → i ≤ 99 → (rest : List ℕ) → Stops rest
+    → itemIn (suc fuel) (decimal i ++ rest) ≡ found (station i) rest
 unfolding itemIn
 station-item i fuel h rest s =
-    rw (digit-not (byte (decimal i ++ rest) 0) 40 (decimal-begins i rest) not-bracket) (then-found _ (station-read i h rest s))
+    rw (digit-not (byte (decimal i ++ rest) 0) 40 (decimal-begins i rest) not-bracket)
+    (then-found _ (station-read i h rest s))
 
-pub times-regrouped : (k : ℕ) (is : Items) (rest : List ℕ) → writtenItem (times k is) ++ rest ≡ text "(times " ++ (decimal k ++ (writtenItems is ++ (41 ∷ rest)))
+pub times-regrouped : (k : ℕ) (is : Items) (rest : List ℕ)
+    → writtenItem (times k is) ++ rest ≡ text "(times " ++ (decimal k ++ (writtenItems is ++ (41 ∷ rest)))
 unfolding writtenItem text textFrom
 times-regrouped k is rest = simp append-assoc
 
-pub next-regrouped : (i : Item) (is : Items) (rest : List ℕ) → writtenItems (next i is) ++ rest ≡ 32 ∷ (writtenItem i ++ (writtenItems is ++ rest))
+pub next-regrouped : (i : Item) (is : Items) (rest : List ℕ)
+    → writtenItems (next i is) ++ rest ≡ 32 ∷ (writtenItem i ++ (writtenItems is ++ rest))
 unfolding writtenItem text textFrom
 next-regrouped i is rest = simp append-assoc
 
 times-item : (k : ℕ) (is : Items) (fuel : ℕ) → 1 ≤ k → k ≤ 99999 → AtLeastOne is → (rest : List ℕ)
-    → itemsIn fuel (writtenItems is ++ (41 ∷ rest)) ≡ found is rest → itemIn (suc fuel) (writtenItem (times k is) ++ rest) ≡ found (times k is) rest
+    → itemsIn fuel (writtenItems is ++ (41 ∷ rest)) ≡ found is rest
+    → itemIn (suc fuel) (writtenItem (times k is) ++ rest) ≡ found (times k is) rest
 unfolding itemIn text textFrom
-times-item k is fuel h l o rest e = ap (itemIn (suc fuel)) (times-regrouped k is rest) ∙ then-found _ (times-read k h l is o rest) ∙ then-found _ e
+times-item k is fuel h l o rest e =
+    ap (itemIn (suc fuel)) (times-regrouped k is rest) ∙ then-found _ (times-read k h l is o rest) ∙ then-found _ e
 
 done-read : (fuel : ℕ) (rest : List ℕ) → itemsIn (suc fuel) (41 ∷ rest) ≡ found done rest
 unfolding itemsIn
@@ -84,7 +91,8 @@ times-length : (k : ℕ) (is : Items) → length (writtenItems is) + 1 < length 
 unfolding writtenItem text textFrom
 times-length k is = simp length-append (omega arith)
 
-next-length : (i : Item) (is : Items) → length (writtenItems (next i is)) ≡ suc (length (writtenItem i) + length (writtenItems is))
+next-length : (i : Item) (is : Items)
+    → length (writtenItems (next i is)) ≡ suc (length (writtenItem i) + length (writtenItems is))
 unfolding writtenItems text textFrom
 next-length i is = simp length-append
 
@@ -106,16 +114,19 @@ mutual
   items-read (next i is) zero f h rest = absurd (omega arith)
   items-read (next i is) (suc fuel) f h rest =
       ap (itemsIn (suc fuel)) (next-regrouped i is (41 ∷ rest))
-      ∙ next-item i is fuel (writtenItems is ++ (41 ∷ rest)) rest (item-read i fuel (omega (arith, next-length i is)) (h .0) _ (items-stop is rest))
+      ∙ next-item i is fuel (writtenItems is ++ (41 ∷ rest)) rest
+      (item-read i fuel (omega (arith, next-length i is)) (h .0) _ (items-stop is rest))
       (items-read is fuel (omega (arith, next-length i is)) (h .1) rest)
 
-steps-read : (is : Items) → ItemsInRange is → formAfter stepsWord (writtenItems is ++ (41 ∷ [])) ≡ some (steps is)
-unfolding formAfter same
+steps-read : (is : Items) → ItemsInRange is → stepsRow .reader (writtenItems is ++ (41 ∷ [])) ≡ some (steps is)
+unfolding stepsRow same
 steps-read is h = then-found _ (items-read is _ (omega (arith, length-append (writtenItems is) (41 ∷ []))) h [])
 
 -- The reader finds in a written form that form.
 pub reads-written : ReadsWritten
-unfolding ReadsWritten written InRange text textFrom formIn firstWord upToStop wordOf same formAfter spaced closing writtenItems
+unfolding ReadsWritten written InRange text textFrom formIn firstWord wordPlace upToStop rowIn wordRows boardRow
+    proposeRow
+    stepsRow showRow same spaced closing writtenItems
 reads-written (board n K) h =
     then-found _ (station-read n (h .0) _ (space-stops _)) ∙ then-found _ (station-read K (h .1) _ (bracket-stops []))
 reads-written (propose i v) h =

@@ -1,27 +1,23 @@
 -- What the reader takes for a form is that form as 01's grammar writes it, in its ranges, and nothing else.
 -- Relies on the grammar written out and on its numbers; with Written it says that the reader is the grammar.
-use mathlib.Core.Path.{_≡_, refl, sym, ap, _∙_, subst}
-use mathlib.Core.Bool.{not, _||_, cond}
-use mathlib.Core.List.{List, [], _∷_, _++_}
-use mathlib.Core.Option.{Option, none, some}
-use Prim.Native.Nat.{ℕ, zero, suc, _+_, _≤_, _<_}
-use native.Mathlib.Numerals.{add-one}
-use native.Mathlib.Omega.{arith}
-use lib.Dec.{T, leb, eqb, eqb→eq, lit<}
-use lib.ListN.{length, drop}
-use mir.Syntax.{w32}
-use mir.Val.{SFits}
-use borrow.Author.Tests.{eqb-true}
+use Rattle.model.proofs.Kit.{_≡_, refl, sym, ap, subst, _∙_, cond, _||_, not, List, [], _∷_, _++_, none, some}
+use Rattle.model.proofs.Kit.{Option, ℕ, zero, suc, _+_, _≤_, _<_, eqb-true, eqb, leb, lit<, T, eqb→eq, length}
+use Rattle.model.proofs.Kit.{drop, w32, SFits, add-one, arith}
 use Rattle.model.specs.Bytes.{byte}
 use Rattle.model.specs.Calls.{Refusal, unless}
 use Rattle.model.specs.Show.{textFrom, text, decimal, signed}
-use Rattle.model.specs.Forms.{times, Items, done, next, Form, board, propose, steps, show, Read, found, andThen, spaced, number, figureIn, behind, timesIn, itemIn, itemsIn}
-use Rattle.model.specs.Forms.{Word, boardWord, proposeWord, stepsWord, showWord, same, wordOf, upToStop, firstWord, closing, formAfter, formIn, tooDeep, Reading, reads, unread, orFour, readLine}
+use Rattle.model.specs.Forms.{times, Items, done, next, Form, board, propose, steps, show, Read, found, andThen}
+use Rattle.model.specs.Forms.{spaced}
+use Rattle.model.specs.Forms.{numberIn, figureIn, behind, timesIn, itemIn, itemsIn}
+use Rattle.model.specs.Forms.{same, closing, WordRow, boardRow, proposeRow, stepsRow, showRow, wordRows, rowIn}
+use Rattle.model.specs.Forms.{upToStop}
+use Rattle.model.specs.Forms.{firstWord, wordPlace, formIn, tooDeep, Reading, reads, unread, orFour, readLine}
 use Rattle.model.specs.Grammar.{WrittenReads}
 use Rattle.model.proofs.Basics.Tests.{true-T, and-l, and-r, cond-case}
 use Rattle.model.proofs.Sheet.Readers.{Always, always-map, always-then, always-if}
 use Rattle.model.proofs.Sheet.NumbersBack.{Stood, in-front, spaced-stood, number-stood, figure-stood}
-use Rattle.model.specs.Grammar.{writtenItem, writtenItems, written, AtLeastOne, ItemInRange, ItemsInRange, InRange}
+use Rattle.model.specs.Grammar.{writtenItem, writtenItems, written, AtLeastOne, ItemInRange, ItemsInRange}
+use Rattle.model.specs.Grammar.{InRange}
 use Rattle.model.proofs.Sheet.Written.{times-regrouped, next-regrouped}
 
 -- ---- items
@@ -38,7 +34,8 @@ behind-stood [] l = refl
 behind-stood (w ∷ ws) [] = tt
 behind-stood (w ∷ ws) (b ∷ l) =
     always-if (λ (k : List ℕ). b ∷ l ≡ w ∷ (ws ++ k)) (eqb w b) (behind ws l)
-    (λ e. always-map (λ (k : List ℕ). l ≡ ws ++ k) (λ (k : List ℕ). b ∷ l ≡ w ∷ (ws ++ k)) (behind ws l) (λ k h. λ j. sym (eqb-true w b e) j ∷ h j) (behind-stood ws l))
+    (λ e. always-map (λ (k : List ℕ). l ≡ ws ++ k) (λ (k : List ℕ). b ∷ l ≡ w ∷ (ws ++ k)) (behind ws l)
+    (λ k h. λ j. sym (eqb-true w b e) j ∷ h j) (behind-stood ws l))
 
 -- what `timesIn` gives: the word, k, and a space next
 TimesStood : List ℕ → Read ℕ → Type 0
@@ -49,10 +46,13 @@ unfolding timesIn TimesStood Times Stood Always found
 times-stood l = go (behind (text "(times ") l) (behind-stood (text "(times ") l)
   where
     go : (o : Option (List ℕ)) → Always (λ (k : List ℕ). l ≡ text "(times " ++ k) o
-        → Always (TimesStood l) (elim o [ none ↦ none | some rest ↦ andThen (number 1 99999 rest) (λ k rest. cond (eqb (byte rest 0) 32) (found k rest) none) ])
+        → Always (TimesStood l) (elim o [
+          | none ↦ none
+          | some rest ↦ andThen (numberIn 1 99999 rest) (λ k rest. cond (eqb (byte rest 0) 32) (found k rest) none)
+        ])
     go none h = tt
     go (some k) h =
-        always-then (Stood decimal Times k) (TimesStood l) (number 1 99999 k) _ (number-stood 1 99999 (lit< tt) k)
+        always-then (Stood decimal Times k) (TimesStood l) (numberIn 1 99999 k) _ (number-stood 1 99999 (lit< tt) k)
         (λ r q. always-if (TimesStood l) (eqb (byte (r .rest) 0) 32) (found (r .value) (r .rest))
         (λ e. (h ∙ ap (λ (x : List ℕ). text "(times " ++ x) (q .0), q .1, eqb-true (byte (r .rest) 0) 32 e)))
 
@@ -71,21 +71,28 @@ module _ (fuel : ℕ) (inner : (l : List ℕ) → Always (ItemsStood l) (itemsIn
   item-step l =
       cond-case (Always (Stood writtenItem ItemInRange l)) (eqb (byte l 0) 40) _ _
       (λ e. always-then (TimesStood l) (Stood writtenItem ItemInRange l) (timesIn l) _ (times-stood l)
-      (λ r t. always-then (ItemsStood (r .rest)) (Stood writtenItem ItemInRange l) (itemsIn fuel (r .rest)) _ (inner (r .rest))
+      (λ r t. always-then (ItemsStood (r .rest)) (Stood writtenItem ItemInRange l) (itemsIn fuel (r .rest)) _
+      (inner (r .rest))
       (λ s h. (
-        t .0 ∙ ap (λ (x : List ℕ). text "(times " ++ (decimal (r .value) ++ x)) (h .0) ∙ sym (times-regrouped (r .value) (s .value) (s .rest)),
+        t .0 ∙ ap (λ (x : List ℕ). text "(times " ++ (decimal (r .value) ++ x)) (h .0)
+            ∙ sym (times-regrouped (r .value) (s .value) (s .rest)),
         (t .1 .0, t .1 .1, at-least-one (s .value) (s .rest) (ap (λ (x : List ℕ). byte x 0) (sym (h .0)) ∙ t .2), h .1),
       ))))
-      (λ e. always-then (Stood decimal Station l) (Stood writtenItem ItemInRange l) (number 0 99 l) _ (number-stood 0 99 (lit< tt) l) (λ r h. (h .0, h .1 .1)))
+      (λ e. always-then (Stood decimal Station l) (Stood writtenItem ItemInRange l) (numberIn 0 99 l) _
+      (number-stood 0 99 (lit< tt) l) (λ r h. (h .0, h .1 .1)))
 
-  items-step : ((l : List ℕ) → Always (Stood writtenItem ItemInRange l) (itemIn fuel l)) → (l : List ℕ) → Always (ItemsStood l) (itemsIn (suc fuel) l)
+  items-step : ((l : List ℕ) → Always (Stood writtenItem ItemInRange l) (itemIn fuel l)) → (l : List ℕ)
+      → Always (ItemsStood l) (itemsIn (suc fuel) l)
   unfolding itemsIn Stood ItemsStood ItemsInRange writtenItems found Always
   items-step each l =
-      cond-case (Always (ItemsStood l)) (eqb (byte l 0) 41) _ _ (λ e. (in-front l 41 (lit< tt) (eqb-true (byte l 0) 41 e), tt))
-      (λ e. always-then (Stood (λ i. 32 ∷ writtenItem i) ItemInRange l) (ItemsStood l) (spaced (λ k. itemIn fuel k) l) _ (spaced-stood writtenItem ItemInRange (λ k. itemIn fuel k) l each)
+      cond-case (Always (ItemsStood l)) (eqb (byte l 0) 41) _ _
+      (λ e. (in-front l 41 (lit< tt) (eqb-true (byte l 0) 41 e), tt))
+      (λ e. always-then (Stood (λ i. 32 ∷ writtenItem i) ItemInRange l) (ItemsStood l) (spaced (λ k. itemIn fuel k) l) _
+      (spaced-stood writtenItem ItemInRange (λ k. itemIn fuel k) l each)
       (λ r t. always-then (ItemsStood (r .rest)) (ItemsStood l) (itemsIn fuel (r .rest)) _ (inner (r .rest))
       (λ s h. (
-        t .0 ∙ ap (λ (x : List ℕ). 32 ∷ (writtenItem (r .value) ++ x)) (h .0) ∙ sym (next-regrouped (r .value) (s .value) (41 ∷ s .rest)),
+        t .0 ∙ ap (λ (x : List ℕ). 32 ∷ (writtenItem (r .value) ++ x)) (h .0)
+            ∙ sym (next-regrouped (r .value) (s .value) (41 ∷ s .rest)),
         (t .1, h .1),
       ))))
 
@@ -106,38 +113,29 @@ unfolding same
 same-text [] [] t = refl
 same-text [] (b ∷ l) t = absurd t
 same-text (a ∷ k) [] t = absurd t
-same-text (a ∷ k) (b ∷ l) t = λ j. eqb→eq a b (and-l (eqb a b) (same k l) t) j ∷ same-text k l (and-r (eqb a b) (same k l) t) j
+same-text (a ∷ k) (b ∷ l) t =
+    λ j. eqb→eq a b (and-l (eqb a b) (same k l) t) j ∷ same-text k l (and-r (eqb a b) (same k l) t) j
 
-wordText : Word → List ℕ
-wordText boardWord = text "board"
-wordText proposeWord = text "propose"
-wordText stepsWord = text "steps"
-wordText showWord = text "show"
+-- what holds of each row of the table of words
+unfoldable pub Each : (WordRow → Type 0) → List WordRow → Type 0
+Each P [] = Unit {0}
+Each P (r ∷ rs) = P r × Each P rs
 
-word-case : (w s : List ℕ) (x : Word) (o : Option Word) → wordText x ≡ s → Always (λ (y : Word). w ≡ wordText y) o
-    → Always (λ (y : Word). w ≡ wordText y) (cond (same w s) (some x) o)
-unfolding Always
-word-case w s x o q h =
-    cond-case (Always (λ (y : Word). w ≡ wordText y)) (same w s) (some x) o (λ e. same-text w s (true-T _ e) ∙ sym q) (λ e. h)
-
-word-stood : (w : List ℕ) → Always (λ (x : Word). w ≡ wordText x) (wordOf w)
-unfolding wordOf wordText Always
-word-stood w =
-    word-case w (text "board") boardWord _ refl
-    (word-case w (text "propose") proposeWord _ refl (word-case w (text "steps") stepsWord _ refl (word-case w (text "show") showWord none refl tt)))
-
-word-some : (w : Word) → 0 < length (wordText w)
-unfolding wordText text textFrom
-word-some boardWord = omega arith
-word-some proposeWord = omega arith
-word-some stepsWord = omega arith
-word-some showWord = omega arith
+-- a row that is found has the word, and what holds of each
+pub row-stood : (P : WordRow → Type 0) (rs : List WordRow) (w : List ℕ) → Each P rs
+    → Always (λ (r : WordRow). (w ≡ r .word) × P r) (rowIn rs w)
+unfolding rowIn Each Always
+row-stood P [] w h = tt
+row-stood P (r ∷ rs) w h =
+    cond-case (Always (λ (r : WordRow). (w ≡ r .word) × P r)) (same w (r .word)) (some r) (rowIn rs w)
+    (λ e. (same-text w (r .word) (true-T _ e), h .0)) (λ e. row-stood P rs w (h .1))
 
 up-to-splits : (l : List ℕ) → l ≡ upToStop l ++ drop (length (upToStop l)) l
 unfolding upToStop
 up-to-splits [] = refl
 up-to-splits (b ∷ l) =
-    cond-case (λ (w : List ℕ). b ∷ l ≡ w ++ drop (length w) (b ∷ l)) (eqb b 32 || eqb b 40 || eqb b 41) [] (b ∷ upToStop l) (λ e. refl)
+    cond-case (λ (w : List ℕ). b ∷ l ≡ w ++ drop (length w) (b ∷ l)) (eqb b 32 || eqb b 40 || eqb b 41) []
+    (b ∷ upToStop l) (λ e. refl)
     (λ e. ap (λ (x : List ℕ). b ∷ x) (up-to-splits l))
 
 -- a word in front stands behind an opening bracket
@@ -145,7 +143,8 @@ first-splits : (l w : List ℕ) → 0 < length w → firstWord l ≡ w → l ≡
 unfolding firstWord
 first-splits [] w h = λ e. absurd (omega (arith, ap length e))
 first-splits (b ∷ l) w h =
-    cond-case (λ (x : List ℕ). x ≡ w → b ∷ l ≡ 40 ∷ (w ++ drop (length w + 1) (b ∷ l))) (eqb b 40) (upToStop l) [] (λ e q. opened (eqb-true b 40 e) q)
+    cond-case (λ (x : List ℕ). x ≡ w → b ∷ l ≡ 40 ∷ (w ++ drop (length w + 1) (b ∷ l))) (eqb b 40) (upToStop l) []
+    (λ e q. opened (eqb-true b 40 e) q)
     (λ e q. absurd (omega (arith, ap length q)))
   where
     opened : b ≡ 40 → upToStop l ≡ w → b ∷ l ≡ 40 ∷ (w ++ drop (length w + 1) (b ∷ l))
@@ -159,52 +158,87 @@ closes : (l : List ℕ) (f : Form) (k : List ℕ) → (k ≡ text ")" → FormSt
 unfolding closing Always
 closes l f k h = always-if (FormStood l) (same k (text ")")) (some f) (λ e. h (same-text k (text ")") (true-T _ e)))
 
-after-stood : (w : Word) (k : List ℕ) → Always (FormStood (40 ∷ (wordText w ++ k))) (formAfter w k)
-unfolding formAfter wordText FormStood written InRange Stood ItemsStood Station text textFrom Always
-after-stood boardWord k =
-    always-then (Stood (λ v. 32 ∷ decimal v) Station k) (FormStood (40 ∷ (wordText boardWord ++ k))) (spaced (number 0 99) k) _
-    (spaced-stood decimal Station (number 0 99) k (number-stood 0 99 (lit< tt)))
-    (λ r g. always-then (Stood (λ v. 32 ∷ decimal v) Station (r .rest)) (FormStood (40 ∷ (wordText boardWord ++ k))) (spaced (number 0 99) (r .rest)) _
-    (spaced-stood decimal Station (number 0 99) (r .rest) (number-stood 0 99 (lit< tt)))
-    (λ s h. closes (40 ∷ (wordText boardWord ++ k)) (board (r .value) (s .value)) (s .rest)
+-- two things behind spaces, and the closing bracket
+two-stood : {A B : Type 0} (W : A → List ℕ) (P : A → Type 0) (U : B → List ℕ) (Q : B → Type 0)
+    (one : List ℕ → Option (Read A))
+    (two : List ℕ → Option (Read B)) (w : List ℕ) (form : A → B → Form) → ((k : List ℕ) → Always (Stood W P k) (one k))
+    → ((k : List ℕ) → Always (Stood U Q k) (two k))
+    → ((a : A) (b : B) → 40 ∷ (w ++ (32 ∷ (W a ++ (32 ∷ (U b ++ text ")"))))) ≡ written (form a b))
+    → ((a : A) (b : B) → P a → Q b → InRange (form a b)) → (k : List ℕ)
+    → Always (FormStood (40 ∷ (w ++ k)))
+    (andThen (spaced one k) λ a l. andThen (spaced two l) λ b rest. closing (form a b) rest)
+unfolding FormStood Stood
+two-stood W P U Q one two w form h l is in-range k =
+    always-then (Stood (λ a. 32 ∷ W a) P k) (FormStood (40 ∷ (w ++ k))) (spaced one k) _ (spaced-stood W P one k h)
+    (λ r g. always-then (Stood (λ b. 32 ∷ U b) Q (r .rest)) (FormStood (40 ∷ (w ++ k))) (spaced two (r .rest)) _
+    (spaced-stood U Q two (r .rest) l)
+    (λ s f. closes (40 ∷ (w ++ k)) (form (r .value) (s .value)) (s .rest)
     (λ e. (
-      ap (λ (x : List ℕ). 40 ∷ (wordText boardWord ++ x))
-          (g .0 ∙ ap (λ (x : List ℕ). 32 ∷ (decimal (r .value) ++ x)) (h .0 ∙ ap (λ (x : List ℕ). 32 ∷ (decimal (s .value) ++ x)) e)),
-      (g .1 .1, h .1 .1),
+      ap (λ (x : List ℕ). 40 ∷ (w ++ x))
+          (g .0 ∙ ap (λ (x : List ℕ). 32 ∷ (W (r .value) ++ x))
+          (f .0 ∙ ap (λ (x : List ℕ). 32 ∷ (U (s .value) ++ x)) e))
+          ∙ is (r .value) (s .value),
+      in-range (r .value) (s .value) (g .1) (f .1),
     ))))
-after-stood proposeWord k =
-    always-then (Stood (λ v. 32 ∷ decimal v) Station k) (FormStood (40 ∷ (wordText proposeWord ++ k))) (spaced (number 0 99) k) _
-    (spaced-stood decimal Station (number 0 99) k (number-stood 0 99 (lit< tt)))
-    (λ r g. always-then (Stood (λ v. 32 ∷ signed v) (SFits w32) (r .rest)) (FormStood (40 ∷ (wordText proposeWord ++ k))) (spaced figureIn (r .rest)) _
-    (spaced-stood signed (SFits w32) figureIn (r .rest) figure-stood)
-    (λ s h. closes (40 ∷ (wordText proposeWord ++ k)) (propose (r .value) (s .value)) (s .rest)
-    (λ e. (
-      ap (λ (x : List ℕ). 40 ∷ (wordText proposeWord ++ x))
-          (g .0 ∙ ap (λ (x : List ℕ). 32 ∷ (decimal (r .value) ++ x)) (h .0 ∙ ap (λ (x : List ℕ). 32 ∷ (signed (s .value) ++ x)) e)),
-      (g .1 .1, h .1),
-    ))))
-after-stood stepsWord k =
-    always-then (ItemsStood k) (FormStood (40 ∷ (wordText stepsWord ++ k))) (itemsIn (length k + 1) k) _ (both-stood (length k + 1) .items k)
-    (λ r h. always-if (FormStood (40 ∷ (wordText stepsWord ++ k))) (same (r .rest) []) (some (steps (r .value)))
-    (λ e. (
-      ap (λ (x : List ℕ). 40 ∷ (wordText stepsWord ++ x))
-          (h .0 ∙ ap (λ (x : List ℕ). writtenItems (r .value) ++ (41 ∷ x)) (same-text (r .rest) [] (true-T _ e))),
-      h .1,
-    )))
-after-stood showWord k =
-    closes (40 ∷ (wordText showWord ++ k)) show k (λ e. (ap (λ (x : List ℕ). 40 ∷ (wordText showWord ++ x)) e, tt))
+
+-- a row's word is some, and what its reader takes stands behind it as the form is written
+unfoldable RowStood : WordRow → Type 0
+RowStood r = (0 < length (r .word)) × ((k : List ℕ) → Always (FormStood (40 ∷ (r .word ++ k))) (r .reader k))
+
+board-stood : RowStood boardRow
+unfolding RowStood boardRow written InRange Station text textFrom
+board-stood = (
+  omega arith,
+  two-stood decimal Station decimal Station (numberIn 0 99) (numberIn 0 99) (text "board") board
+      (number-stood 0 99 (lit< tt))
+      (number-stood 0 99 (lit< tt)) (λ n K. refl) (λ n K h l. (h .1, l .1)),
+)
+
+propose-stood : RowStood proposeRow
+unfolding RowStood proposeRow written InRange Station text textFrom
+propose-stood = (
+  omega arith,
+  two-stood decimal Station signed (SFits w32) (numberIn 0 99) figureIn (text "propose") propose
+      (number-stood 0 99 (lit< tt))
+      figure-stood (λ i v. refl) (λ i v h l. (h .1, l)),
+)
+
+steps-stood : RowStood stepsRow
+unfolding RowStood stepsRow FormStood written InRange ItemsStood text textFrom Always
+steps-stood = (
+  omega arith,
+  λ k. always-then (ItemsStood k) (FormStood (40 ∷ (text "steps" ++ k))) (itemsIn (length k + 1) k) _
+      (both-stood (length k + 1) .items k)
+      (λ r h. always-if (FormStood (40 ∷ (text "steps" ++ k))) (same (r .rest) []) (some (steps (r .value)))
+      (λ e. (
+        ap (λ (x : List ℕ). 40 ∷ (text "steps" ++ x))
+            (h .0 ∙ ap (λ (x : List ℕ). writtenItems (r .value) ++ (41 ∷ x)) (same-text (r .rest) [] (true-T _ e))),
+        h .1,
+      ))),
+)
+
+show-stood : RowStood showRow
+unfolding RowStood showRow FormStood written InRange text textFrom
+show-stood = (
+  omega arith,
+  λ k. closes (40 ∷ (text "show" ++ k)) show k (λ e. (ap (λ (x : List ℕ). 40 ∷ (text "show" ++ x)) e, tt)),
+)
+
+rows-stood : Each RowStood wordRows
+unfolding Each wordRows
+rows-stood = (board-stood, (propose-stood, (steps-stood, (show-stood, tt))))
 
 form-stood : (l : List ℕ) → Always (FormStood l) (formIn l)
-unfolding formIn Always
-form-stood l = go (wordOf (firstWord l)) (word-stood (firstWord l))
+unfolding formIn wordPlace RowStood Always
+form-stood l = go (rowIn wordRows (firstWord l)) (row-stood RowStood wordRows (firstWord l) rows-stood)
   where
-    go : (o : Option Word) → Always (λ (w : Word). firstWord l ≡ wordText w) o
-        → Always (FormStood l) (elim o [ none ↦ none | some w ↦ formAfter w (drop (length (firstWord l) + 1) l) ])
+    go : (o : Option WordRow) → Always (λ (r : WordRow). (firstWord l ≡ r .word) × RowStood r) o
+        → Always (FormStood l) (elim o [ none ↦ none | some r ↦ r .reader (drop (length (firstWord l) + 1) l) ])
     go none h = tt
-    go (some w) h =
-        subst (λ (n : ℕ). Always (FormStood l) (formAfter w (drop (n + 1) l))) (ap length (sym h))
-        (subst (λ (x : List ℕ). Always (FormStood x) (formAfter w (drop (length (wordText w) + 1) l))) (sym (first-splits l (wordText w) (word-some w) h))
-        (after-stood w (drop (length (wordText w) + 1) l)))
+    go (some r) h =
+        subst (λ (n : ℕ). Always (FormStood l) (r .reader (drop (n + 1) l))) (ap length (sym (h .0)))
+        (subst (λ (x : List ℕ). Always (FormStood x) (r .reader (drop (length (r .word) + 1) l)))
+        (sym (first-splits l (r .word) (h .1 .0) (h .0))) (h .1 .1 (drop (length (r .word) + 1) l)))
 
 -- The reader takes nothing for a form but what the grammar writes for it, in its ranges.
 pub written-reads : WrittenReads
@@ -214,7 +248,7 @@ written-reads l f e = subst (Always (FormStood l)) e (form-stood l)
 -- ---- lines
 
 -- So a line that is read is a written form, and its numbers are in their ranges.
-unfoldable pub LineStood : List ℕ → Reading → Type 0
+unfoldable pub LineStood : List ℕ → Reading Form → Type 0
 LineStood l (reads f) = (l ≡ written f) × InRange f
 LineStood l (unread k) = Unit {0}
 

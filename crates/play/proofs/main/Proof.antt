@@ -16,22 +16,7 @@ abbrev μ-loop : tie.MeasureT-loop
 
 pub main-spec : {M : Type 1} → statement M
 main-spec =
-    tie.close
-    (tie.spec
-    Inv-loop
-    μ-loop
-    (λ c. search needs)
-    (λ c κs. search needs)
-    (λ c. search needs)
-    (λ c. search needs)
-    (λ c. search needs)
-    (λ c. search counted)
-    (λ c. search needs)
-    (λ c κs. search needs)
-    (λ c. search inside)
-    (λ c. search (counted, inside))
-    (λ c κs. search needs)
-    (λ c. search needs)
-    (λ c. search falls)
-    (λ c. search needs)
-    (λ c. search needs))
+    tie.close (tie.spec Inv-loop μ-loop (λ c. search needs) (λ c κs. search needs) (λ c. search needs)
+    (λ c. search needs) (λ c. search needs) (λ c. search counted) (λ c. search needs) (λ c κs. search needs)
+    (λ c. search inside) (λ c. search (counted, inside)) (λ c κs. search needs) (λ c. search needs) (λ c. search falls)
+    (λ c. search needs) (λ c. search needs))

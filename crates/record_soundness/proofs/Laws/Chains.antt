@@ -1,9 +1,6 @@
 -- Tests joined by "and", "or" and "if": the value that a function returns where one of them is known.
 -- Relies on nothing; every return of a function that answers with a bool relies on it.
-use mathlib.Core.Path.{_≡_, refl, sym, ap}
-use mathlib.Core.Bool.{Bool, true, false, not, _&&_, _||_, cond}
-use Prim.Native.Nat.{ℕ}
-use native.Mathlib.Omega.{arith}
+use Rattle.model.proofs.Kit.{_≡_, sym, ap, _∙_, Bool, true, false, cond, _&&_, _||_, not, ℕ, arith}
 use Rattle.model.specs.Bytes.{implies}
 
 -- what a call answered and the code then negated
@@ -14,10 +11,6 @@ no false x e h = sym e
 pub yes : (r x : Bool) → r ≡ x → not r ≡ false → x ≡ true
 yes true x e h = sym e
 yes false x e h = absurd (let z : _≡_ {A = ℕ} 0 1 = cc in omega arith)
-
-pub and-true : (a : Bool) → a ≡ a && true
-and-true true = refl
-and-true false = refl
 
 -- A chain of five tests, up to the first that fails; a shorter chain begins with `true`.
 module _ (a b c d e : Bool) where
@@ -40,9 +33,6 @@ module _ (a b : Bool) where
   pub or-first : a ≡ true → true ≡ a || b
   or-first h = ap (λ (x : Bool). x || b) (sym h)
 
-  pub or-last : a ≡ false → b ≡ a || b
-  or-last h = ap (λ (x : Bool). x || b) (sym h)
-
   pub implies-no : a ≡ false → true ≡ implies a b
   unfolding implies
   implies-no h = ap (λ (x : Bool). not x || b) (sym h)
@@ -51,8 +41,14 @@ module _ (a b : Bool) where
   unfolding implies
   implies-yes h = ap (λ (x : Bool). not x || b) (sym h)
 
-pub or-second : (a b : Bool) → a ≡ false → b ≡ true → a || b ≡ true
-or-second a b ha hb = λ i. ha i || hb i
+  pub or-true : a ≡ true → a || b ≡ true
+  or-true h = ap (λ (x : Bool). x || b) h
+
+  pub or-second : a ≡ false → b ≡ true → a || b ≡ true
+  or-second ha hb = λ i. ha i || hb i
+
+  pub or-false : a ≡ false → b ≡ false → a || b ≡ false
+  or-false ha hb = λ i. ha i || hb i
 
 module _ {A : Type 0} (t : Bool) (x y : A) where
   pub cond-yes : t ≡ true → x ≡ cond t x y
@@ -60,3 +56,25 @@ module _ {A : Type 0} (t : Bool) (x y : A) where
 
   pub cond-no : t ≡ false → y ≡ cond t x y
   cond-no h = ap (λ (s : Bool). cond s x y) (sym h)
+
+-- What a call answered and the code then tested.
+pub told : (r x b : Bool) → r ≡ x → r ≡ b → x ≡ b
+told r x b e h = sym e ∙ h
+
+-- The answer r of the last test, where the tests before it led there.
+pub ends : (a b c d e r : Bool) → r ≡ e → a ≡ true → b ≡ true → c ≡ true → d ≡ true → r ≡ a && b && c && d && e
+ends a b c d e r h ha hb hc hd = h ∙ pass a b c d e ha hb hc hd
+
+module _ (r : Bool) where
+  pub or-last : (a b : Bool) → r ≡ b → a ≡ false → r ≡ a || b
+  or-last a b e h = e ∙ ap (λ (x : Bool). x || b) (sym h)
+
+  pub implied : (a b : Bool) → r ≡ b → a ≡ true → r ≡ implies a b
+  implied a b e h = e ∙ implies-yes a b h
+
+module _ {A : Type 0} (t : Bool) (r x y : A) where
+  pub chosen-yes : r ≡ x → t ≡ true → r ≡ cond t x y
+  chosen-yes e h = e ∙ cond-yes t x y h
+
+  pub chosen-no : r ≡ y → t ≡ false → r ≡ cond t x y
+  chosen-no e h = e ∙ cond-no t x y h

@@ -1,63 +1,76 @@
 -- The clauses on a record's fields, where they speak of figures.
--- Relies on Zeros; the proofs of fields rely on it.
-use mathlib.Core.Path.{_≡_, refl, sym, ap, _∙_}
-use mathlib.Core.Bool.{Bool, true, _&&_}
-use mathlib.Core.List.{List, [], _∷_, _++_}
-use Prim.Native.Nat.{ℕ}
-use lib.Dec.{eqb}
-use lib.ListN.{replicate}
-use mir.Syntax.{w32}
-use mir.Val.{ofZ, SFits}
-use borrow.Author.Tests.{eq-eqb}
+-- Relies on the laws of zeros; the proofs of fields rely on it.
+use Rattle.model.proofs.Kit.{_≡_, refl, sym, ap, _∙_, Bool, true, false, cond, _&&_, List, [], _∷_, _++_, ℕ, _≤_, _<_}
+use Rattle.model.proofs.Kit.{le-leb, lt-leb, lt-ltb, le-ltb, eq-eqb, eqb, leb, ltb, replicate, w32, ofZ, SFits}
 use Rattle.model.specs.declared.Record.{Record}
 use Rattle.model.specs.Bytes.{digits, part, zeros}
 use Rattle.model.specs.Figure.{figureBytes}
 use Rattle.model.specs.Layout.{layRecord}
-use Rattle.model.specs.Sound.{idleZero, restZero}
-use Rattle.record_soundness.proofs.Laws.Chains.{and-true, implies-yes}
-use Rattle.record_soundness.proofs.Laws.Zeros.{zeros-append, figure-zero}
+use Rattle.model.specs.Sound.{phaseKnown, positionInside, islandInside, bestInside, idleZero, restZero, seenKnown}
+use Rattle.record_soundness.specs.Groups.{boundsKept}
+use Rattle.figures.proofs.Laws.Zeros.{and-true, zeros-append, figure-zero}
+use Rattle.record_soundness.proofs.Laws.Chains.{implied, fail2, fail3, fail4, pass}
 
 pub best-zero : (f : Record) → SFits w32 (f .best) → eqb (ofZ w32 (f .best)) 0 ≡ zeros (part 16 4 (layRecord f))
 unfolding layRecord part figureBytes digits
 best-zero f h = figure-zero (f .best) h
 
+-- the bytes of the fields of one byte
+abbrev pub bytes : Record → List ℕ
+bytes f = part 0 6 (layRecord f)
+
 module _ (f : Record) where
-  abbrev bytes : List ℕ
-  bytes = f .phase ∷ f .position ∷ f .island ∷ f .seen ∷ f .highest ∷ f .flag ∷ []
-
-  head-zero : zeros (f .phase ∷ f .position ∷ f .island ∷ f .seen ∷ f .highest ∷ f .flag ∷ 0 ∷ 0 ∷ []) ≡ zeros bytes
-  unfolding zeros
-  head-zero = zeros-append bytes (0 ∷ 0 ∷ []) ∙ sym (and-true (zeros bytes))
-
-  pub record-zero : SFits w32 (f .proposal) → SFits w32 (f .carried) → SFits w32 (f .best)
-      → zeros bytes && eqb (ofZ w32 (f .proposal)) 0 && eqb (ofZ w32 (f .carried)) 0 && eqb (ofZ w32 (f .best)) 0 ≡ zeros (layRecord f)
-  unfolding layRecord zeros
+  record-zero : SFits w32 (f .proposal) → SFits w32 (f .carried) → SFits w32 (f .best)
+      → zeros (bytes f) && eqb (ofZ w32 (f .proposal)) 0 && eqb (ofZ w32 (f .carried)) 0 && eqb (ofZ w32 (f .best)) 0
+      ≡ zeros (layRecord f)
+  unfolding layRecord zeros part
   record-zero hv hx hy =
-      (λ i. head-zero' i && figure-zero (f .proposal) hv i && figure-zero (f .carried) hx i && figure-zero (f .best) hy i)
+      (λ i. head i && figure-zero (f .proposal) hv i && figure-zero (f .carried) hx i && figure-zero (f .best) hy i)
       ∙ and-true _ ∙ sym whole
     where
-      eight : List ℕ
-      eight = f .phase ∷ f .position ∷ f .island ∷ f .seen ∷ f .highest ∷ f .flag ∷ 0 ∷ 0 ∷ []
+      head : zeros (bytes f) ≡ zeros (bytes f ++ 0 ∷ 0 ∷ [])
+      head = and-true (zeros (bytes f)) ∙ sym (zeros-append (bytes f) (0 ∷ 0 ∷ []))
 
-      head-zero' : zeros bytes ≡ zeros eight
-      head-zero' = sym head-zero
+      whole : zeros
+          (bytes f ++ (0 ∷ 0 ∷ []) ++ figureBytes (f .proposal) ++ figureBytes (f .carried) ++ figureBytes (f .best)
+          ++ replicate 4 0)
+          ≡ zeros (bytes f ++ 0 ∷ 0 ∷ []) && zeros (figureBytes (f .proposal)) && zeros (figureBytes (f .carried))
+          && zeros (figureBytes (f .best)) && true
+      whole = simp zeros-append
 
-      whole : zeros (eight ++ figureBytes (f .proposal) ++ figureBytes (f .carried) ++ figureBytes (f .best) ++ replicate 4 0)
-          ≡ zeros eight && zeros (figureBytes (f .proposal)) && zeros (figureBytes (f .carried)) && zeros (figureBytes (f .best)) && true
-      whole =
-          zeros-append (eight ++ figureBytes (f .proposal) ++ figureBytes (f .carried) ++ figureBytes (f .best)) (replicate 4 0)
-          ∙ ap (λ (t : Bool). t && true)
-          (zeros-append (eight ++ figureBytes (f .proposal) ++ figureBytes (f .carried)) (figureBytes (f .best))
-          ∙ ap (λ (t : Bool). t && zeros (figureBytes (f .best)))
-          (zeros-append (eight ++ figureBytes (f .proposal)) (figureBytes (f .carried))
-          ∙ ap (λ (t : Bool). t && zeros (figureBytes (f .carried))) (zeros-append eight (figureBytes (f .proposal)))))
-
-  pub idle-form : SFits w32 (f .proposal) → SFits w32 (f .carried) → SFits w32 (f .best) → f .phase ≡ 0
-      → zeros bytes && eqb (ofZ w32 (f .proposal)) 0 && eqb (ofZ w32 (f .carried)) 0 && eqb (ofZ w32 (f .best)) 0 ≡ idleZero (f .phase) (layRecord f)
+  pub idle-form : (r : Bool) → SFits w32 (f .proposal) → SFits w32 (f .carried) → SFits w32 (f .best) → f .phase ≡ 0
+      → r ≡ zeros (bytes f) && eqb (ofZ w32 (f .proposal)) 0 && eqb (ofZ w32 (f .carried)) 0
+      && eqb (ofZ w32 (f .best)) 0
+      → r ≡ idleZero (f .phase) (layRecord f)
   unfolding idleZero
-  idle-form hv hx hy e = record-zero hv hx hy ∙ implies-yes (eqb (f .phase) 0) (zeros (layRecord f)) (eq-eqb (f .phase) 0 e)
+  idle-form r hv hx hy e q = implied r _ _ (q ∙ record-zero hv hx hy) (eq-eqb (f .phase) 0 e)
 
 -- the layout leaves zeros in the bytes that no field has
 pub rest-laid : (f : Record) → restZero (f .phase) (layRecord f) ≡ true
 unfolding restZero layRecord part zeros figureBytes digits
 rest-laid f = refl
+
+-- each phase has its limit of what was seen
+pub seen-limit : (f : Record) (k : ℕ) → k ≡ cond (eqb (f .phase) 2) 1 (cond (eqb (f .phase) 4) 2 3)
+    → leb (f .seen) k ≡ seenKnown (f .phase) (layRecord f)
+unfolding seenKnown layRecord
+seen-limit f k e = ap (leb (f .seen)) e
+
+-- the bounds, up to the first that fails
+module _ (n K : ℕ) (f : Record) where
+  pub phase-out : 8 < f .phase → false ≡ boundsKept n K f
+  unfolding phaseKnown
+  phase-out h = fail2 true _ _ _ _ refl (lt-leb (f .phase) 8 h)
+
+  module _ (h : f .phase ≤ 8) where
+    pub position-out : n ≤ f .position → false ≡ boundsKept n K f
+    unfolding phaseKnown positionInside layRecord
+    position-out p = fail3 true _ _ _ _ refl (le-leb (f .phase) 8 h) (le-ltb (f .position) n p)
+
+    pub island-out : f .position < n → K ≤ f .island → false ≡ boundsKept n K f
+    unfolding phaseKnown positionInside islandInside layRecord
+    island-out p c = fail4 true _ _ _ _ refl (le-leb (f .phase) 8 h) (lt-ltb (f .position) n p) (le-ltb (f .island) K c)
+
+    pub best-in : f .position < n → f .island < K → ltb (f .highest) K ≡ boundsKept n K f
+    unfolding phaseKnown positionInside islandInside bestInside layRecord
+    best-in p c = pass true _ _ _ _ refl (le-leb (f .phase) 8 h) (lt-ltb (f .position) n p) (lt-ltb (f .island) K c)

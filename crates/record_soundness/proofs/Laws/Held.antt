@@ -1,19 +1,10 @@
 -- The station's own register: where it stands, and what it holds against what the record says it wrote.
 -- Relies on the listing's values and their layout; the proofs of held and of the three turns rely on it.
-use mathlib.Core.Path.{_≡_, refl, sym, ap, _∙_}
-use mathlib.Core.Bool.{Bool, false, _&&_}
-use mathlib.Core.List.{List}
-use Prim.Native.Nat.{ℕ, zero, suc, _+_, _*_, _-_, _≤_, _<_}
-use native.Mathlib.Nat.{lt-of-not-le}
-use native.Mathlib.Decide.{decLe, ℕ-discrete}
-use native.Mathlib.Omega.{arith}
-use lib.Dec.{eqb, leb, ltb}
-use lib.IntN.{ℤ, pos, negsuc}
-use lib.ListN.{length}
-use mir.Syntax.{w32}
-use mir.Val.{toZ, ofZ, SFits}
-use mir.Facts.{toZ-ofZ}
-use borrow.Author.Tests.{eq-eqb, ne-eqb, lt-ltb, le-ltb, le-leb, lt-leb}
+use Rattle.model.proofs.Kit.{_≡_, refl, sym, ap, _∙_, Bool, true, false, _&&_, not, List, ℕ, zero, suc, _+_, _≤_, _<_}
+use Rattle.model.proofs.Kit.{_*_, le-leb, lt-leb, lt-ltb, le-ltb, eq-eqb, ne-eqb, eqb, leb, ltb, length, toZ-ofZ, w32}
+use Rattle.model.proofs.Kit.{toZ, ofZ, SFits, lt-of-not-le, arith}
+use native.Mathlib.Decide.{decLe}
+use borrow.Author.Tests.{not-true, not-false}
 use Rattle.model.specs.declared.Record.{Record}
 use Rattle.model.specs.declared.Register.{Register}
 use Rattle.model.specs.Bytes.{part}
@@ -52,22 +43,10 @@ module _ (m g : ℕ) where
       go (yes l) = le-leb 2 g l ∙ ap (eqb 2) (sym (high g l))
       go (no f) = lt-leb 2 g (lt-of-not-le f) ∙ ap (eqb 2) (sym (low g (lt-of-not-le f)))
 
--- ---- figures by their bits
-pub same-bits : (v w : ℤ) → SFits w32 v → SFits w32 w → eqb (ofZ w32 v) (ofZ w32 w) ≡ sameFigure v w
-unfolding sameFigure
-same-bits (pos a) (pos b) h l = refl
-same-bits (pos a) (negsuc b) h l = ne-eqb a (4294967296 - suc b) (λ e. omega (arith, h .sfits, l .sfits))
-same-bits (negsuc a) (pos b) h l = ne-eqb (4294967296 - suc a) b (λ e. omega (arith, h .sfits, l .sfits))
-same-bits (negsuc a) (negsuc b) h l = go (ℕ-discrete a b)
-  where
-    go : Dec (a ≡ b) → eqb (4294967296 - suc a) (4294967296 - suc b) ≡ eqb a b
-    go (yes e) = eq-eqb (4294967296 - suc a) (4294967296 - suc b) (omega arith) ∙ sym (eq-eqb a b e)
-    go (no f) =
-        ne-eqb (4294967296 - suc a) (4294967296 - suc b) (λ e. f (omega (arith, h .sfits, l .sfits))) ∙ sym (ne-eqb a b f)
-
 -- ---- what a register holds
 marked : (m k : ℕ) (v : Figure) (g : Flag) (j : ℕ) (w : Figure) → (m ≡ 0 → ⊥)
-    → eqb (flagNumber (flagOf m)) (flagNumber g) && eqb k j && sameFigure v w ≡ sameRegister (marked-by m k v) (filled g j w)
+    → eqb (flagNumber (flagOf m)) (flagNumber g) && eqb k j && sameFigure v w
+    ≡ sameRegister (marked-by m k v) (filled g j w)
 unfolding sameRegister
 marked zero k v g j w h = absurd (h refl)
 marked (suc m) k v g j w h = refl
@@ -77,15 +56,34 @@ module _ (r : Register) (g j : ℕ) (w : Figure) where
   unfolding registerValue sameRegister
   held-empty e = ap (λ (m : ℕ). sameRegister (marked-by m (r .island) (r .figure)) (filled (flagOf g) j w)) (sym e)
 
-  pub held-form : (r .mark ≡ 0 → ⊥)
-      → eqb (flagNumber (flagOf (r .mark))) (flagNumber (flagOf g)) && eqb (r .island) j && sameFigure (r .figure) w
-      ≡ sameRegister (registerValue r) (filled (flagOf g) j w)
-  unfolding registerValue
-  held-form f = marked (r .mark) (r .island) (r .figure) (flagOf g) j w f
+  module _ (m : r .mark ≡ 0 → ⊥) (a : Bool) (e : a ≡ eqb (flagNumber (flagOf (r .mark))) (flagNumber (flagOf g))) where
+    held-form : a && eqb (r .island) j && sameFigure (r .figure) w
+        ≡ sameRegister (registerValue r) (filled (flagOf g) j w)
+    unfolding registerValue
+    held-form =
+        ap (λ (t : Bool). t && eqb (r .island) j && sameFigure (r .figure) w) e
+        ∙ marked (r .mark) (r .island) (r .figure) (flagOf g) j w m
 
--- The register that the code read is the one of the record's turn t, and it was compared with what the record says it wrote:
--- flag g and island j beside the carried figure.
-written : (t : Turn) (n i : ℕ) (b : List ℕ) (f : Record) (r : Register) (row g j : ℕ) (a : Bool) → SFits w32 (f .carried)
+    pub other-flag : not a ≡ true → false ≡ sameRegister (registerValue r) (filled (flagOf g) j w)
+    other-flag h = sym (λ q. not-true a h q && eqb (r .island) j && sameFigure (r .figure) w) ∙ held-form
+
+    module _ (h : not a ≡ false) where
+      pub other-island : (r .island ≡ j → ⊥) → false ≡ sameRegister (registerValue r) (filled (flagOf g) j w)
+      other-island f =
+          sym (λ q. not-false a h q && ne-eqb (r .island) j f q && sameFigure (r .figure) w) ∙ held-form
+
+      -- the code's test of the figures that the bits stand for
+      pub by-figure : r .island ≡ j → (s : Bool) → SFits w32 (r .figure) → SFits w32 w
+          → s ≡ sameFigure (toZ w32 (ofZ w32 (r .figure))) (toZ w32 (ofZ w32 w))
+          → s ≡ sameRegister (registerValue r) (filled (flagOf g) j w)
+      by-figure k s x y p =
+          p ∙ (λ q. sameFigure (toZ-ofZ x q) (toZ-ofZ y q))
+          ∙ sym (λ q. not-false a h q && eq-eqb (r .island) j k q && sameFigure (r .figure) w) ∙ held-form
+
+-- The register that the code read is the one of the record's turn t, and it was compared with what the record says it
+-- wrote: flag g and island j beside the carried figure.
+written : (t : Turn) (n i : ℕ) (b : List ℕ) (f : Record) (r : Register) (row g j : ℕ) (a : Bool)
+    → SFits w32 (f .carried)
     → row ≡ rowOf (array t (f .island)) → filled (flagOf g) j (f .carried) ≡ entry t (f .island) (f .carried)
     → r ≡ readRegister (part (8 + 8 * (n * row + i)) 8 b)
     → a ≡ sameRegister (registerValue r) (filled (flagOf g) j (toZ w32 (ofZ w32 (f .carried))))
@@ -97,12 +95,14 @@ written t n i b f r row g j a h place what er ea =
 
 module _ (n i : ℕ) (b : List ℕ) (f : Record) (r : Register) (a : Bool) (h : SFits w32 (f .carried)) where
   pub written-m : r ≡ readRegister (part (8 + 8 * (n * 0 + i)) 8 b)
-      → a ≡ sameRegister (registerValue r) (filled (flagOf 1) (f .island) (toZ w32 (ofZ w32 (f .carried)))) → a ≡ ownWritten n i b (readingOf turnM f)
+      → a ≡ sameRegister (registerValue r) (filled (flagOf 1) (f .island) (toZ w32 (ofZ w32 (f .carried))))
+      → a ≡ ownWritten n i b (readingOf turnM f)
   unfolding array rowOf entry flagOf
   written-m = written turnM n i b f r 0 1 (f .island) a h refl refl
 
   pub written-a : r ≡ readRegister (part (8 + 8 * (n * (1 + 2 * f .island) + i)) 8 b)
-      → a ≡ sameRegister (registerValue r) (filled (flagOf 1) 0 (toZ w32 (ofZ w32 (f .carried)))) → a ≡ ownWritten n i b (readingOf turnA f)
+      → a ≡ sameRegister (registerValue r) (filled (flagOf 1) 0 (toZ w32 (ofZ w32 (f .carried))))
+      → a ≡ ownWritten n i b (readingOf turnA f)
   unfolding array rowOf entry flagOf
   written-a = written turnA n i b f r (1 + 2 * f .island) 1 0 a h refl refl
 

@@ -1,11 +1,7 @@
 -- A loop that tests each number below k and stops at the first that fails.
 -- Relies on the laws of `every` of the crate model; the loops over rows, islands and records rely on it.
-use mathlib.Core.Path.{_≡_, refl, sym, ap, _∙_, subst}
-use mathlib.Core.Bool.{Bool, true, false, _&&_}
-use Prim.Native.Nat.{ℕ, _+_, _≤_, _<_}
-use native.Mathlib.Numerals.{add-one}
-use native.Mathlib.Omega.{arith}
-use lib.Dec.{T}
+use Rattle.model.proofs.Kit.{_≡_, refl, sym, ap, subst, _∙_, Bool, true, false, _&&_, ℕ, _+_, _≤_, _<_, T, add-one}
+use Rattle.model.proofs.Kit.{arith}
 use Rattle.model.specs.Bytes.{every}
 use Rattle.model.proofs.Basics.Tests.{every-at}
 

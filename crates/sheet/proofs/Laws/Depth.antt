@@ -1,20 +1,14 @@
 -- Brackets: the depth of the bytes passed, and the one that closes a line.
 -- Relies on the model's depth and forms; the proofs of `too_deep`, `closes` and the forms rely on it.
-use mathlib.Core.Path.{_≡_, refl, sym, ap, _∙_}
-use mathlib.Core.Bool.{Bool, true, false, cond, _&&_, _||_}
-use mathlib.Core.List.{List, [], _∷_}
-use Prim.Native.Nat.{ℕ, suc, _+_, _-_, _≤_, _<_}
-use native.Mathlib.Numerals.{add-one}
-use native.Mathlib.Omega.{arith}
-use borrow.Author.Tests.{eq-eqb, ne-eqb, lt-ltb, le-ltb}
-use lib.Dec.{eqb, ltb}
-use lib.ListN.{length, drop, getD, length-drop, drop-of-length-le}
+use Rattle.model.proofs.Kit.{_≡_, refl, sym, ap, _∙_, Bool, true, false, cond, _&&_, _||_, List, [], _∷_, ℕ, suc, _+_}
+use Rattle.model.proofs.Kit.{_-_, _≤_, _<_, lt-ltb, le-ltb, eq-eqb, ne-eqb, eqb, ltb, length, drop, length-drop}
+use Rattle.model.proofs.Kit.{drop-of-length-le, getD, add-one, arith}
 use lib.Seq.{drop-cons}
 use Rattle.model.proofs.Basics.Tests.{and-false}
-use Rattle.model.specs.Forms.{same, one, tooDeep, closing, showWord, formAfter, orFour}
+use Rattle.model.specs.Forms.{same, one, tooDeep, closing, showRow, orFour}
 use Rattle.model.specs.Show.{text, textFrom}
 use Rattle.sheet.specs.declared.form.LineForm.the-variants.{Show, Refused}
-use Rattle.sheet.specs.Lines.{lineForm}
+use Rattle.sheet.specs.LineForms.{lineForm}
 
 -- ---- the depth
 
@@ -46,7 +40,8 @@ pub record Passed (line : List ℕ) (o c i : ℕ) : Type 0 where
 pub nothing-passed : (line : List ℕ) → Passed line 0 0 0
 nothing-passed line = record { inside = omega arith; opened = omega arith; closed = omega arith; rest = refl }
 
-module _ (line : List ℕ) (o c i o′ c′ : ℕ) (p : Passed line o c i) (h : i < length line) (a : o′ ≡ o + one 40 (getD line i 0))
+module _ (line : List ℕ) (o c i o′ c′ : ℕ) (p : Passed line o c i) (h : i < length line)
+    (a : o′ ≡ o + one 40 (getD line i 0))
     (b : c′ ≡ c + one 41 (getD line i 0)) where
   still-opened : o′ ≤ i + 1
   still-opened = omega (arith, one-small 40 (getD line i 0), p .opened)
@@ -102,10 +97,10 @@ last line at h e =
 
 -- ---- `(show)`
 
-pub shows : (l : List ℕ) → same l (text ")") ≡ true → Show ≡ lineForm (orFour (formAfter showWord l))
-unfolding lineForm orFour formAfter closing
-shows l e = simp e
+pub shows : (at : ℕ) (l : List ℕ) → same l (text ")") ≡ true → Show ≡ lineForm at (orFour (showRow .reader l))
+unfolding lineForm orFour showRow closing
+shows at l e = simp e
 
-pub shows-not : (l : List ℕ) → same l (text ")") ≡ false → Refused 4 ≡ lineForm (orFour (formAfter showWord l))
-unfolding lineForm orFour formAfter closing
-shows-not l e = simp e
+pub shows-not : (at : ℕ) (l : List ℕ) → same l (text ")") ≡ false → Refused 4 ≡ lineForm at (orFour (showRow .reader l))
+unfolding lineForm orFour showRow closing
+shows-not at l e = simp e

@@ -1,23 +1,17 @@
--- Items counted as they are read: what the model's reader gives at each place where the code's readers answer, by the number
--- of steps alone.
+-- Items counted as they are read: what the model's reader gives at each place where the code's readers answer, by the
+-- number of steps alone.
 -- Relies on the lexer's Places and the model's items; the proof of the two readers of items relies on it.
-use mathlib.Core.Path.{_≡_, refl, sym, ap, _∙_}
-use mathlib.Core.Bool.{Bool, true, false}
-use mathlib.Core.List.{List, _++_}
-use mathlib.Core.Option.{Option, none, some}
-use Prim.Native.Nat.{ℕ, zero, suc, _+_, _*_, _-_, _≤_, _<_}
-use native.Mathlib.Nat.{mul-le-mul-left, mul-le-mul-right, le-trans}
-use native.Mathlib.Omega.{arith}
-use lib.Dec.{leb}
-use lib.ListN.{length, getD, drop, length-append, drop-of-length-le}
-use borrow.Author.Tests.{leb-true, leb-false, eq-eqb, ne-eqb}
-use Rattle.model.specs.Forms.{Item, station, times, Items, next, repeated, expandItem, expand, Read, found, andThen, spaced, number, natural, timesIn, itemIn, itemsIn}
+use Rattle.model.proofs.Kit.{_≡_, refl, sym, ap, _∙_, Bool, true, false, List, _++_, none, some, Option, ℕ, zero, suc}
+use Rattle.model.proofs.Kit.{_+_, _-_, _≤_, _<_, _*_, leb-true, leb-false, eq-eqb, ne-eqb, leb, length, drop}
+use Rattle.model.proofs.Kit.{drop-of-length-le, getD, length-append, w64, Fits, mul-le-mul, arith}
+use Rattle.model.specs.Forms.{Item, station, times, Items, next, repeated, expandItem, expand, Read, found, andThen}
+use Rattle.model.specs.Forms.{spaced, numberIn, natural, timesIn, itemIn, itemsIn}
 use Rattle.model.proofs.Sheet.Limits.{length-repeated}
 use Rattle.lexer.specs.declared.number.FoundNumber.{FoundNumber}
 use Rattle.lexer.specs.declared.number.FoundNumber.the-variants as numbers
 use Rattle.sheet.specs.declared.item.Counted.{Counted}
 use Rattle.sheet.specs.declared.item.Counted.the-variants.{Steps, Refused}
-use Rattle.lexer.specs.Answered.{orRefused}
+use Rattle.model.specs.Forms.{orFour}
 use Rattle.lexer.specs.Placed.{NumberIs}
 use Rattle.sheet.specs.Counts.{capped, countedAt, CountedInside, sized, TimesIs, ItemIs, ItemsAre}
 use Rattle.lexer.proofs.Laws.Answers.{back, was-read}
@@ -83,13 +77,15 @@ joined fuel none = none
 joined fuel (some r) = more (r .value) (sized expand (itemsIn fuel (r .rest)))
 
 sized-next : (fuel : ℕ) (o : Option (Read Item))
-    → sized expand (andThen o λ i k. andThen (itemsIn fuel k) λ is rest. found (next i is) rest) ≡ joined fuel (sized expandItem o)
+    → sized expand (andThen o λ i k. andThen (itemsIn fuel k) λ is rest. found (next i is) rest) ≡ joined fuel
+    (sized expandItem o)
 unfolding sized joined andThen found expand more
 sized-next fuel none = refl
 sized-next fuel (some r) = by (itemsIn fuel (r .rest))
   where
     by : (o : Option (Read Items))
-        → sized expand (andThen o λ is rest. found (next (r .value) is) rest) ≡ more (capped (length (expandItem (r .value)))) (sized expand o)
+        → sized expand (andThen o λ is rest. found (next (r .value) is) rest) ≡ more
+        (capped (length (expandItem (r .value)))) (sized expand o)
     by none = refl
     by (some q) =
         let e : capped (length (expandItem (r .value) ++ expand (q .value)))
@@ -99,7 +95,7 @@ sized-next fuel (some r) = by (itemsIn fuel (r .rest))
 
 -- ---- what a count that was taken apart says
 
-module _ (line : List ℕ) (r : Counted) (o : Option (Read ℕ)) (reads : countedAt line r ≡ orRefused o) where
+module _ (line : List ℕ) (r : Counted) (o : Option (Read ℕ)) (reads : countedAt line r ≡ orFour o) where
   pub counted-missed : (k : ℕ) → r ≡ Refused k → o ≡ none
   unfolding countedAt back
   counted-missed k e = was-read (countedAt line) o r _ reads e
@@ -115,27 +111,31 @@ module _ (line : List ℕ) (at : ℕ) where
   abbrev ItemGives : Option (Read ℕ) → Type 0
   ItemGives o = (fuel : ℕ) → length (drop at line) ≤ fuel → sized expandItem (itemIn (suc fuel) (drop at line)) ≡ o
 
-  item-is : (o : Option (Read ℕ)) → ItemGives o → (r : Counted) → CountedInside line at r → countedAt line r ≡ orRefused o → ItemIs line at r
+  item-is : (o : Option (Read ℕ)) → ItemGives o → (r : Counted) → CountedInside line at r → countedAt line r ≡ orFour o
+      → ItemIs line at r
   item-is o gives r inside e = record { reads = by; inside = inside }
     where
-      by : (fuel : ℕ) → length (drop at line) < fuel → countedAt line r ≡ orRefused (sized expandItem (itemIn fuel (drop at line)))
+      by : (fuel : ℕ) → length (drop at line) < fuel
+          → countedAt line r ≡ orFour (sized expandItem (itemIn fuel (drop at line)))
       by zero l = absurd (omega arith)
-      by (suc fuel) l = e ∙ ap orRefused (sym (gives fuel (omega arith)))
+      by (suc fuel) l = e ∙ ap orFour (sym (gives fuel (omega arith)))
 
   item-refused : ItemGives none → ItemIs line at (Refused 4)
-  unfolding countedAt orRefused
+  unfolding countedAt orFour
   item-refused gives = item-is none gives (Refused 4) tt refl
 
-  item-counted : (c after : ℕ) → ItemGives (found c (drop after line)) → CountedInside line at (Steps c after) → ItemIs line at (Steps c after)
-  unfolding countedAt orRefused found
+  item-counted : (c after : ℕ) → ItemGives (found c (drop after line)) → CountedInside line at (Steps c after)
+      → ItemIs line at (Steps c after)
+  unfolding countedAt orFour found
   item-counted c after gives inside = item-is (found c (drop after line)) gives (Steps c after) inside refl
 
   pub no-item : length line ≤ at → ItemIs line at (Refused 4)
-  unfolding itemIn number natural andThen sized
+  unfolding itemIn numberIn natural andThen sized
   no-item h = item-refused (λ fuel l. rw (drop-of-length-le line h))
 
   module _ (no-bracket : getD line at 0 ≡ 40 → ⊥) where
-    pub as-number : (fuel : ℕ) → itemIn (suc fuel) (drop at line) ≡ andThen (number 0 99 (drop at line)) λ i rest. found (station i) rest
+    pub as-number : (fuel : ℕ) → itemIn (suc fuel) (drop at line) ≡ andThen
+        (numberIn 0 99 (drop at line)) λ i rest. found (station i) rest
     unfolding itemIn
     as-number fuel = rw (first-byte line at, ne-eqb (getD line at 0) 40 no-bracket)
 
@@ -170,9 +170,11 @@ module _ (line : List ℕ) (at : ℕ) where
         by-items : (x : Counted) → q ≡ x → ItemGives (fold k (back (countedAt line x)))
         unfolding andThen found
         by-items x d fuel l =
-            let fewer : length (drop inner line) < fuel = omega (arith, inside .0, inside .1, left-over line at, left-over line inner) in
+            let fewer : length (drop inner line) < fuel =
+            omega (arith, inside .0, inside .1, left-over line at, left-over line inner) in
             rw (as-times fuel, number-found line r _ (is .reads) k inner e)
-            (sized-times k (inside .2) (itemsIn fuel (drop inner line)) ∙ ap (fold k) (was-read (countedAt line) _ q x (items .reads fuel fewer) d))
+            (sized-times k (inside .2) (itemsIn fuel (drop inner line))
+            ∙ ap (fold k) (was-read (countedAt line) _ q x (items .reads fuel fewer) d))
 
         pub no-inner : (j : ℕ) → q ≡ Refused j → ItemIs line at (Refused 4)
         unfolding fold countedAt back
@@ -205,18 +207,26 @@ begun line at = record {
 module _ (line : List ℕ) (at place total : ℕ) (along : Along line at place total) where
   -- the model's reader gives o from `place` on, by the steps and `total` more
   abbrev ItemsGive : Option (Read ℕ) → Type 0
-  ItemsGive o = (fuel : ℕ) → length (drop place line) ≤ fuel → more total (sized expand (itemsIn (suc fuel) (drop place line))) ≡ o
+  ItemsGive o =
+      (fuel : ℕ) → length (drop place line) ≤ fuel
+      → more total (sized expand (itemsIn (suc fuel) (drop place line))) ≡ o
 
-  items-are : (o : Option (Read ℕ)) → ItemsGive o → (r : Counted) → CountedInside line at r → countedAt line r ≡ orRefused o → ItemsAre line at r
-  items-are o gives r inside e = record { reads = λ fuel l. from (along .reads fuel l .0) (along .reads fuel l .1) (along .reads fuel l .2); inside = inside }
+  items-are : (o : Option (Read ℕ)) → ItemsGive o → (r : Counted) → CountedInside line at r
+      → countedAt line r ≡ orFour o → ItemsAre line at r
+  items-are o gives r inside e =
+      record {
+        reads = λ fuel l. from (along .reads fuel l .0) (along .reads fuel l .1) (along .reads fuel l .2);
+        inside = inside;
+      }
     where
-      from : {p : Option (Read ℕ)} (k : ℕ) → length (drop place line) < k → p ≡ more total (sized expand (itemsIn k (drop place line)))
-          → countedAt line r ≡ orRefused p
+      from : {p : Option (Read ℕ)} (k : ℕ) → length (drop place line) < k
+          → p ≡ more total (sized expand (itemsIn k (drop place line)))
+          → countedAt line r ≡ orFour p
       from zero l q = absurd (omega arith)
-      from (suc k) l q = e ∙ ap orRefused (sym (q ∙ gives k (omega arith)))
+      from (suc k) l q = e ∙ ap orFour (sym (q ∙ gives k (omega arith)))
 
   items-refused : ItemsGive none → ItemsAre line at (Refused 4)
-  unfolding countedAt orRefused
+  unfolding countedAt orFour
   items-refused gives = items-are none gives (Refused 4) tt refl
 
   pub no-more : length line ≤ place → ItemsAre line at (Refused 4)
@@ -225,27 +235,36 @@ module _ (line : List ℕ) (at place total : ℕ) (along : Along line at place t
 
   module _ (inside : place < length line) where
     pub closed : getD line place 0 ≡ 41 → ItemsAre line at (Steps total (place + 1))
-    unfolding itemsIn sized more countedAt orRefused found expand
+    unfolding itemsIn sized more countedAt orFour found expand
     closed e =
         let same : capped (total + 0) ≡ total = omega (arith, along .small) in
         items-are (found total (drop (place + 1) line))
-        (λ fuel l. rw (first-byte line place, eq-eqb (getD line place 0) 41 e, behind-first line place) (ap (λ (v : ℕ). found v (drop (place + 1) line)) same))
+        (λ fuel l. rw (first-byte line place, eq-eqb (getD line place 0) 41 e, behind-first line place)
+        (ap (λ (v : ℕ). found v (drop (place + 1) line)) same))
         (Steps total (place + 1)) (omega (arith, along .behind), omega arith, along .small) refl
 
     module _ (unclosed : getD line place 0 ≡ 41 → ⊥) where
       pub no-space : (getD line place 0 ≡ 32 → ⊥) → ItemsAre line at (Refused 4)
       unfolding itemsIn spaced andThen sized more
       no-space ne =
-          items-refused (λ fuel l. rw (first-byte line place, ne-eqb (getD line place 0) 41 unclosed, ne-eqb (getD line place 0) 32 ne))
+          items-refused (λ fuel l. rw
+          (first-byte line place, ne-eqb (getD line place 0) 41 unclosed, ne-eqb (getD line place 0) 32 ne))
 
       module _ (space : getD line place 0 ≡ 32) (q : Counted) (item : ItemIs line (place + 1) q) where
         by-item : (x : Counted) → q ≡ x → (fuel : ℕ) → length (drop place line) ≤ fuel
             → sized expand (itemsIn (suc fuel) (drop place line)) ≡ joined fuel (back (countedAt line x))
         unfolding itemsIn spaced
         by-item x d fuel l =
-            let fewer : length (drop (place + 1) line) < fuel = omega (arith, left-over line place, left-over line (place + 1)) in
-            rw (first-byte line place, ne-eqb (getD line place 0) 41 unclosed, eq-eqb (getD line place 0) 32 space, behind-first line place)
-            (sized-next fuel (itemIn fuel (drop (place + 1) line)) ∙ ap (joined fuel) (was-read (countedAt line) _ q x (item .reads fuel fewer) d))
+            let fewer : length (drop (place + 1) line) < fuel =
+            omega (arith, left-over line place, left-over line (place + 1)) in
+            rw (
+              first-byte line place,
+              ne-eqb (getD line place 0) 41 unclosed,
+              eq-eqb (getD line place 0) 32 space,
+              behind-first line place,
+            )
+            (sized-next fuel (itemIn fuel (drop (place + 1) line))
+            ∙ ap (joined fuel) (was-read (countedAt line) _ q x (item .reads fuel fewer) d))
 
         pub item-missing : (k : ℕ) → q ≡ Refused k → ItemsAre line at (Refused 4)
         unfolding joined countedAt back more
@@ -263,33 +282,41 @@ module _ (line : List ℕ) (at place total : ℕ) (along : Along line at place t
           where
             from : (fuel k : ℕ) → length (drop place line) < k
                 → sized expand (itemsIn fuel (drop at line)) ≡ more total (sized expand (itemsIn k (drop place line)))
-                → (k : ℕ) × (length (drop after line) < k) × (sized expand (itemsIn fuel (drop at line)) ≡ more m (sized expand (itemsIn k (drop after line))))
+                → (k : ℕ) × (length (drop after line) < k)
+                × (sized expand (itemsIn fuel (drop at line)) ≡ more m (sized expand (itemsIn k (drop after line))))
             from fuel zero l e = absurd (omega arith)
             from fuel (suc k) l e =
                 let within = rw d at (item .inside) in (
                   k,
                   omega (arith, left-over line place, left-over line after),
                   e ∙ ap (more total) (by-item _ d k (omega arith))
-                      ∙ more-twice total c _ ∙ ap (λ (v : ℕ). more v (sized expand (itemsIn k (drop after line)))) (sym g),
+                      ∙ more-twice total c _
+                      ∙ ap (λ (v : ℕ). more v (sized expand (itemsIn k (drop after line)))) (sym g),
                 )
 
 -- ---- what the calls need to end and the counts to fit
 
-pub times-behind : (line : List ℕ) (at k inner : ℕ) (r : FoundNumber) → TimesIs line at r → r ≡ numbers.At k inner → at < inner
+pub times-behind : (line : List ℕ) (at k inner : ℕ) (r : FoundNumber) → TimesIs line at r → r ≡ numbers.At k inner
+    → at < inner
 times-behind line at k inner r is e = let inside = rw e at (is .inside) in inside .0
 
-pub item-behind : (line : List ℕ) (at c after : ℕ) (r : Counted) → ItemIs line at r → r ≡ Steps c after → at < after
-item-behind line at c after r is e = let inside = rw e at (is .inside) in inside .0
+pub item-less : (line : List ℕ) (place c after : ℕ) (r : Counted) → place < length line → ItemIs line (place + 1) r
+    → r ≡ Steps c after → length line - after < length line - place
+item-less line place c after r h is e = let inside = rw e at (is .inside) in omega (arith, inside .0)
 
 pub product-fits : (line : List ℕ) (at k inner : ℕ) (r : FoundNumber) → TimesIs line at r → r ≡ numbers.At k inner
-    → (c after : ℕ) (q : Counted) → ItemsAre line inner q → q ≡ Steps c after → k * c < 18446744073709551616
+    → (c after : ℕ) (q : Counted) → ItemsAre line inner q → q ≡ Steps c after → Fits w64 (k * c)
 product-fits line at k inner r is e c after q items d =
     let outer = rw e at (is .inside) in
     let inside = rw d at (items .inside) in
-    omega (arith, mul-le-mul k c 99999 65537 (outer .3) (inside .2))
-  where
-    mul-le-mul : (a b x y : ℕ) → a ≤ x → b ≤ y → a * b ≤ x * y
-    mul-le-mul a b x y h l = le-trans (mul-le-mul-left a l) (mul-le-mul-right y h)
+    record { fits = omega (arith, mul-le-mul (outer .3) (inside .2)) }
 
 pub falls-to : (l at inner t : ℕ) → l - at ≡ t → at < inner → at < l → l - inner < t
 falls-to l at inner t e h b = omega arith
+
+module _ (line : List ℕ) (at place total : ℕ) (along : Along line at place total) where
+  pub next-behind : at < place + 1
+  next-behind = omega (arith, along .behind)
+
+  pub at-inside : place < length line → at < length line
+  at-inside h = omega (arith, along .behind)

@@ -1,18 +1,15 @@
 -- An accepted step: where it reads and writes lies on the board, and what is put back is what the model's access puts.
--- Relies on Touching, Putting, the promise of `move_station` and the model's access; the proof of `access` relies on it.
-use mathlib.Core.Path.{_≡_, refl, sym, ap, _∙_, subst}
-use mathlib.Core.Bool.{true, false}
-use mathlib.Core.List.{List}
-use mathlib.Core.Option.{Option}
-use Prim.Native.Nat.{ℕ, zero, suc, _+_, _≤_, _<_}
-use native.Mathlib.Omega.{arith}
-use lib.ListN.{length}
+-- Relies on Ready, Putting, the promise of `move_station` and the model's access; the proof of `access` relies on it.
+use Rattle.model.proofs.Kit.{_≡_, refl, sym, ap, subst, _∙_, true, false, List, Option, ℕ, zero, suc, _+_, _≤_, _<_}
+use Rattle.model.proofs.Kit.{length, arith}
 use Rattle.model.specs.declared.Record.{Record}
 use Rattle.model.specs.declared.Register as Fields
 use Rattle.model.specs.Bytes.{part, splice, digits}
 use Rattle.model.specs.Figure.{Figure, figures, figureBytes}
-use Rattle.model.specs.Listing.{Turn, turnM, turnA, turnB, Register, Stage, writing, reading, has-decided, is-spent, active, move, placeArray, placeColumn}
-use Rattle.model.specs.Layout.{registerAt, recordAt, readRegister, layRegister, registerValue, layRecord, recordFields, recordValue, writingOf, readingOf, ofPhase, registerOf}
+use Rattle.model.specs.Listing.{Turn, turnM, turnA, turnB, Register, Stage, writing, reading, has-decided, is-spent}
+use Rattle.model.specs.Listing.{active, move, placeArray, placeColumn}
+use Rattle.model.specs.Layout.{registerAt, recordAt, readRegister, layRegister, registerValue, layRecord, recordFields}
+use Rattle.model.specs.Layout.{recordValue, writingOf, readingOf, ofPhase, registerOf, putChanges}
 use Rattle.model.specs.Calls.{putStation, access}
 use Rattle.model.proofs.Board.Codec.{register}
 use Rattle.model.proofs.Basics.Tests.{clash}
@@ -21,12 +18,12 @@ use Rattle.model.proofs.Board.Places.{InBoard, register-inside, register-fits, 
 use Rattle.model.proofs.Board.Values.{array-inside}
 use Rattle.model.proofs.Listing.Going.{Going}
 use Rattle.model.proofs.Listing.Written.{read-writes}
-use Rattle.codec.specs.Over.{phaseOver, collectedOver, startedOver}
-use Rattle.codec.proofs.Laws.Over.{phase-inside, collected-inside, started-inside}
+use Rattle.model.proofs.Board.Changes.{put-back}
+use Rattle.codec.specs.Parts.{phasePart, collectedPart, startedPart}
 use Rattle.archipelago.specs.declared.Moved.{Moved}
 use Rattle.archipelago.specs.Advanced.{Ready, Written, Advanced, Moves}
-use Rattle.archipelago.proofs.Ready.{put-written, put-nothing}
 use Rattle.stepping.specs.Stepped.{Touches, Accesses, OnSize}
+use Rattle.stepping.proofs.Laws.Ready.{put-written, put-nothing}
 use Rattle.stepping.proofs.Laws.Putting.{write-changes, read-changes, move-changes}
 
 -- the stage that a ready record stands for, and its place on the board
@@ -40,11 +37,23 @@ pub record Standing (n K j : ℕ) (f : Record) : Type 0 where
 module _ (n K j : ℕ) (f : Record) (h : Ready n K f) (own : j < n) where
   write-stands : (t : Turn) → recordValue f ≡ writingOf t f → Standing n K j f
   unfolding writingOf placeArray placeColumn
-  write-stands t e = record { stage = writing t (f .island) (f .carried); stands = e; goes = tt; inside = array-inside K t (f .island) (h .island); column = own }
+  write-stands t e = record {
+    stage = writing t (f .island) (f .carried);
+    stands = e;
+    goes = tt;
+    inside = array-inside K t (f .island) (h .island);
+    column = own;
+  }
 
   read-stands : (t : Turn) → recordValue f ≡ readingOf t f → Standing n K j f
   unfolding readingOf placeArray placeColumn
-  read-stands t e = record { stage = reading t (f .island) (f .carried) (f .position) _; stands = e; goes = tt; inside = array-inside K t (f .island) (h .island); column = h .position }
+  read-stands t e = record {
+    stage = reading t (f .island) (f .carried) (f .position) _;
+    stands = e;
+    goes = tt;
+    inside = array-inside K t (f .island) (h .island);
+    column = h .position;
+  }
 
   by-phase : (k : ℕ) → f .phase ≡ k → Standing n K j f
   unfolding recordValue ofPhase
@@ -60,28 +69,39 @@ module _ (n K j : ℕ) (f : Record) (h : Ready n K f) (own : j < n) where
   pub standing : Standing n K j f
   standing = by-phase (f .phase) refl
 
-pub place-fits : (n K j : ℕ) (f : Record) (b : List ℕ) (r : ℕ) → Ready n K f → OnSize n K j b → Touches n j f r → r + 8 ≤ length b
+pub place-fits : (n K j : ℕ) (f : Record) (b : List ℕ) (r : ℕ) → Ready n K f → OnSize n K j b → Touches n j f r
+    → r + 8 ≤ length b
 unfolding Touches
 place-fits n K j f b r h z t =
     let s = standing n K j f h (z .own) in
-    omega (arith, register-fits n K (placeArray (s .stage)) (placeColumn j (s .stage)) (s .inside) (s .column), t (s .stage) (s .stands), z .len)
+    omega (
+      arith,
+      register-fits n K (placeArray (s .stage)) (placeColumn j (s .stage)) (s .inside) (s .column),
+      t
+          (s .stage) (s .stands),
+      z .len,
+    )
 
 pub record-fits : (n K j : ℕ) (b : List ℕ) (at : ℕ) → OnSize n K j b → at ≡ recordAt n K j → at + 24 ≤ length b
 record-fits n K j b at z e = omega (arith, record-inside n K j (z .own), z .len)
 
-length-put : (at : ℕ) (r : Fields.Register) (b d : List ℕ) → at + 8 ≤ length b → d ≡ splice at (layRegister r) b → length d ≡ length b
+length-put : (at : ℕ) (r : Fields.Register) (b d : List ℕ) → at + 8 ≤ length b → d ≡ splice at (layRegister r) b
+    → length d ≡ length b
 unfolding layRegister figureBytes digits
 length-put at r b d h e = ap length e ∙ length-splice at (layRegister r) b h
 
-pub record-fits-after : (n K j : ℕ) (f : Record) (b e : List ℕ) (place at : ℕ) (r : Fields.Register) → Ready n K f → OnSize n K j b → Touches n j f place
+pub record-fits-after : (n K j : ℕ) (f : Record) (b e : List ℕ) (place at : ℕ) (r : Fields.Register) → Ready n K f
+    → OnSize n K j b → Touches n j f place
     → at ≡ recordAt n K j → e ≡ splice place (layRegister r) b → at + 24 ≤ length e
 record-fits-after n K j f b e place at r h z t q p =
     omega (arith, record-fits n K j b at z q, length-put place r b e (place-fits n K j f b place h z t) p)
 
 -- ---- what is put back
 
-module _ (n K j : ℕ) (f : Record) (b : List ℕ) (place at : ℕ) (g : Fields.Register) (m : Moved) (h : Ready n K f) (z : OnSize n K j b)
-    (t : Touches n j f place) (eg : g ≡ readRegister (part place 8 b)) (a : Moves n K f g m) (ea : at ≡ recordAt n K j) (w : part at 24 b ≡ layRecord f) where
+module _ (n K j : ℕ) (f : Record) (b : List ℕ) (place at : ℕ) (g : Fields.Register) (m : Moved) (h : Ready n K f)
+    (z : OnSize n K j b)
+    (t : Touches n j f place) (eg : g ≡ readRegister (part place 8 b)) (a : Moves n K f g m) (ea : at ≡ recordAt n K j)
+    (w : part at 24 b ≡ layRecord f) where
   moved : (s : Stage Figure) → recordValue f ≡ active (f .proposal) s
       → Advanced (f .proposal) (move figures n K s (registerOf n (placeArray s) (placeColumn j s) b)) m
   unfolding Moves Touches registerOf
@@ -90,7 +110,8 @@ module _ (n K j : ℕ) (f : Record) (b : List ℕ) (place at : ℕ) (g : Fields.
       (ap registerValue eg ∙ ap (λ (k : ℕ). registerValue (readRegister (part k 8 b))) (t s e)) (a (f .proposal) s e)
 
   -- only a write writes, and it writes the station's own register
-  own-column : (s : Stage Figure) → Written (move figures n K s (registerOf n (placeArray s) (placeColumn j s) b) .written) m → m .writes ≡ true
+  own-column : (s : Stage Figure)
+      → Written (move figures n K s (registerOf n (placeArray s) (placeColumn j s) b) .written) m → m .writes ≡ true
       → placeColumn j s ≡ j
   unfolding placeColumn Written
   own-column (writing u c x) w q = refl
@@ -100,21 +121,25 @@ module _ (n K j : ℕ) (f : Record) (b : List ℕ) (place at : ℕ) (g : Fields.
   own-column (is-spent c x) w q = refl
 
   -- the whole record put back, after a write and after a read
-  put-writing : (e d : List ℕ) → m .writes ≡ true → e ≡ splice place (layRegister (m .register)) b → d ≡ splice at (layRecord (m .station)) e
+  put-writing : (e d : List ℕ) → m .writes ≡ true → e ≡ splice place (layRegister (m .register)) b
+      → d ≡ splice at (layRecord (m .station)) e
       → Accesses n K j f b (m .answer) d
   unfolding Accesses Touches access putStation
   put-writing e d q ee ed s es =
       let v = moved s es in
       let col = own-column s (v .written) q in
-      let put = ee ∙ ap (λ (k : ℕ). splice k (layRegister (m .register)) b) (t s es ∙ ap (registerAt n (placeArray s)) col)
-      ∙ sym (put-written n (placeArray s) j _ b m (v .written) q) in
+      let put = ee ∙ ap (λ (k : ℕ). splice k (layRegister (m .register)) b)
+      (t s es ∙ ap (registerAt n (placeArray s)) col)
+      ∙ sym (put-written n (placeArray s) j b m _ (v .written) q) in
       (v .answer, ed ∙ (λ i. splice (ea i) (layRecord (v .station i)) (put i)))
 
-  put-reading : (d : List ℕ) → m .writes ≡ false → d ≡ splice at (layRecord (m .station)) b → Accesses n K j f b (m .answer) d
+  put-reading : (d : List ℕ) → m .writes ≡ false → d ≡ splice at (layRecord (m .station)) b
+      → Accesses n K j f b (m .answer) d
   unfolding Accesses Touches access putStation
   put-reading d q ed s es =
       let v = moved s es in
-      (v .answer, ed ∙ (λ i. splice (ea i) (layRecord (v .station i)) (sym (put-nothing n (placeArray s) j _ b m (v .written) q) i)))
+      let put = sym (put-nothing n (placeArray s) j b m _ (v .written) q) in
+      (v .answer, ed ∙ (λ i. splice (ea i) (layRecord (v .station i)) (put i)))
 
   here : Standing n K j f
   here = standing n K j f h (z .own)
@@ -127,28 +152,33 @@ module _ (n K j : ℕ) (f : Record) (b : List ℕ) (place at : ℕ) (g : Fields.
   beside : (r : Fields.Register) (e : List ℕ) → e ≡ splice place (layRegister r) b → part at 24 e ≡ layRecord f
   unfolding Touches layRegister figureBytes digits
   beside r e q =
-      let before = register-inside n K (placeArray (here .stage)) (placeColumn j (here .stage)) j (here .inside) (here .column) in
+      let before = register-inside n K (placeArray (here .stage)) (placeColumn j (here .stage)) j (here .inside)
+      (here .column) in
       let there = t (here .stage) (here .stands) in
       ap (part at 24) q
-      ∙ part-after place (layRegister r) b (place-fits n K j f b place h z t) at 24 (omega arith) (record-fits n K j b at z ea) ∙ w
+      ∙ part-after place (layRegister r) b (place-fits n K j f b place h z t) at 24 (omega arith)
+      (record-fits n K j b at z ea) ∙ w
 
   -- only the part that changed put back: over the rest, which stands there, it makes the whole record
-  pub accessed-writing : (e d : List ℕ) → m .writes ≡ true → e ≡ splice place (layRegister (m .register)) b → d ≡ phaseOver (m .station) at e
-      → Accesses n K j f b (m .answer) d
+  pub accessed-writing : (e d : List ℕ) → m .writes ≡ true → e ≡ splice place (layRegister (m .register)) b
+      → d ≡ putChanges (phasePart (m .station)) at e → Accesses n K j f b (m .answer) d
   accessed-writing e d q ee ed =
       put-writing e d q ee
-      (ed ∙ phase-inside (m .station) at e (layRecord f) (record-fits-after n K j f b e place at (m .register) h z t ea ee) (beside (m .register) e ee)
-      ∙ ap (λ (v : List ℕ). splice at v e) (write-changes n K (f .proposal) f _ m (here .stage) laid (moved (here .stage) (here .stands)) q))
+      (ed ∙ put-back at e (record-fits-after n K j f b e place at (m .register) h z t ea ee) _ f _
+      (beside (m .register) e ee)
+      (write-changes n K (f .proposal) f _ m (here .stage) laid (moved (here .stage) (here .stands)) q))
 
-  pub accessed-ending : (d : List ℕ) → m .writes ≡ false → d ≡ startedOver (m .station) at b → Accesses n K j f b (m .answer) d
+  pub accessed-ending : (d : List ℕ) → m .writes ≡ false → d ≡ putChanges (startedPart (m .station)) at b
+      → Accesses n K j f b (m .answer) d
   accessed-ending d q ed =
       put-reading d q
-      (ed ∙ started-inside (m .station) at b (layRecord f) (record-fits n K j b at z ea) w
-      ∙ ap (λ (v : List ℕ). splice at v b) (move-changes n K (f .proposal) f _ m (here .stage) laid (moved (here .stage) (here .stands))))
+      (ed ∙ put-back at b (record-fits n K j b at z ea) _ f _ w
+      (move-changes n K (f .proposal) f _ m (here .stage) laid (moved (here .stage) (here .stands))))
 
-  pub accessed-collecting : (d : List ℕ) → m .writes ≡ false → 0 < m .station .position → d ≡ collectedOver (m .station) at b
+  pub accessed-collecting : (d : List ℕ) → m .writes ≡ false → (m .station .position ≡ 0 → ⊥)
+      → d ≡ putChanges (collectedPart (m .station)) at b
       → Accesses n K j f b (m .answer) d
   accessed-collecting d q l ed =
       put-reading d q
-      (ed ∙ collected-inside (m .station) at b (layRecord f) (record-fits n K j b at z ea) w
-      ∙ ap (λ (v : List ℕ). splice at v b) (read-changes n K (f .proposal) f _ m (here .stage) laid (moved (here .stage) (here .stands)) q l))
+      (ed ∙ put-back at b (record-fits n K j b at z ea) _ f _ w
+      (read-changes n K (f .proposal) f _ m (here .stage) laid (moved (here .stage) (here .stands)) q l))

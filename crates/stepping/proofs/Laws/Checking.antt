@@ -1,9 +1,6 @@
 -- A call that tests the board first: the board's own refusals, and a board that passed.
 -- Relies on the model's calls; the proofs of the public calls rely on it.
-use mathlib.Core.Path.{_≡_, sym, ap, _∙_}
-use mathlib.Core.List.{List}
-use mathlib.Core.Option.{none, some}
-use Prim.Native.Nat.{ℕ}
+use Rattle.model.proofs.Kit.{_≡_, sym, ap, _∙_, List, none, some, ℕ}
 use Rattle.model.specs.declared.Verdict.{Verdict}
 use Rattle.model.specs.declared.Verdict.the-variants.{Accepted, Refused}
 use Rattle.model.specs.declared.StepAnswer.{StepAnswer}
@@ -18,7 +15,8 @@ pub passed : (b : List ℕ) (v : Verdict) → v ≡ Accepted → verdict v ≡ b
 unfolding verdict
 passed b v e h = sym h ∙ ap verdict e
 
-pub turned : (b : List ℕ) (v : Verdict) (k : ℕ) → v ≡ Refused k → verdict v ≡ boardRefusal b none → boardRefusal b none ≡ some k
+pub turned : (b : List ℕ) (v : Verdict) (k : ℕ) → v ≡ Refused k → verdict v ≡ boardRefusal b none
+    → boardRefusal b none ≡ some k
 unfolding verdict
 turned b v k e h = sym h ∙ ap verdict e
 

@@ -1,13 +1,8 @@
--- Runs put together of runs: of no station, of one, and of one list after another; a run keeps the board sound and its length.
--- Relies on the model's runs; the walk over items relies on it, which runs them one after another.
-use mathlib.Core.Path.{_≡_, refl, sym, ap, _∙_, subst}
-use mathlib.Core.Bool.{cond}
-use mathlib.Core.List.{List, [], _∷_, _++_}
-use mathlib.Core.Option.{none}
-use Prim.Native.Nat.{ℕ, _+_, _<_}
-use native.Mathlib.Omega.{arith}
-use lib.Dec.{lit<}
-use lib.ListN.{length, length-append}
+-- Runs put together of runs: of no station, of one, and of one list after another; a run keeps the board sound and its
+-- length.
+-- Relies on the model's runs; the run of items relies on it, which runs them one after another.
+use Rattle.model.proofs.Kit.{_≡_, refl, sym, ap, subst, _∙_, cond, List, [], _∷_, _++_, none, ℕ, _+_, _<_, lit<, length}
+use Rattle.model.proofs.Kit.{length-append, arith}
 use Rattle.model.specs.declared.StepAnswer.{StepAnswer}
 use Rattle.model.specs.Bytes.{byte}
 use Rattle.model.specs.Figure.{Figure}
@@ -24,7 +19,8 @@ pub runs-none : (b : List ℕ) → RunsOn [] b 0 b
 unfolding RunsOn taken answers after
 runs-none b = (refl, omega arith, refl)
 
-pub runs-one : (i : ℕ) (b : List ℕ) (a : StepAnswer) (d : List ℕ) → StepsOn i b a d → (m : ℕ) → m ≡ counts a → RunsOn (i ∷ []) b m d
+pub runs-one : (i : ℕ) (b : List ℕ) (a : StepAnswer) (d : List ℕ) → StepsOn i b a d → (m : ℕ) → m ≡ counts a
+    → RunsOn (i ∷ []) b m d
 unfolding RunsOn StepsOn counts taken answers after
 runs-one i b a d s m e = (
   omega (arith, ap {B = ℕ} (λ (x : Answer Figure). cond (accepted x) 1 0) (s .0)),
@@ -63,4 +59,5 @@ module _ (is b d : List ℕ) (r : ℕ) (sound : boardRefusal b none ≡ none) (h
   pub runs-length : length d ≡ length b
   unfolding stations islands
   runs-length =
-      still .shape .len ∙ (λ j. boardLength (runs-head 0 (lit< tt) j) (runs-head 1 (lit< tt) j)) ∙ sym (board .shape .len)
+      still .shape .len ∙ (λ j. boardLength (runs-head 0 (lit< tt) j) (runs-head 1 (lit< tt) j))
+      ∙ sym (board .shape .len)

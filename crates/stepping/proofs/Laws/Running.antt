@@ -1,23 +1,16 @@
 -- A run: one more step of the loop, and the answer at each return.
 -- Relies on the model's runs; the proofs of `run_on` and `run` rely on it.
-use mathlib.Core.Path.{_≡_, refl, sym, ap, _∙_, subst}
-use mathlib.Core.Bool.{Bool, true, false, cond}
-use mathlib.Core.List.{List, [], _∷_, _++_}
-use mathlib.Core.Option.{none, some}
-use Prim.Native.Nat.{ℕ, _+_, _-_, _≤_, _<_}
-use native.Mathlib.Numerals.{add-one}
-use native.Mathlib.Omega.{arith}
-use lib.Dec.{leb, le→leb}
-use lib.ListN.{length, take, getD}
-use lib.Seq.{take-suc, take-all}
-use borrow.Author.Tests.{lt-leb}
+use Rattle.model.proofs.Kit.{_≡_, refl, sym, ap, subst, _∙_, Bool, true, false, cond, List, [], _∷_, _++_, none, some}
+use Rattle.model.proofs.Kit.{ℕ, _+_, _-_, _≤_, _<_, lt-leb, leb, le→leb, length, take, getD, take-all, add-one, arith}
+use lib.Seq.{take-suc}
 use Rattle.model.specs.declared.Verdict.{Verdict}
 use Rattle.model.specs.declared.Verdict.the-variants as verdicts
 use Rattle.model.specs.declared.StepAnswer.{StepAnswer}
 use Rattle.model.specs.declared.RunVerdict.the-variants.{Ran, Refused}
 use Rattle.model.specs.Figure.{Figure}
 use Rattle.model.specs.Listing.{Answer, accepted}
-use Rattle.model.specs.Calls.{After, Refusal, RunAnswer, ran, notRun, boardRefusal, unless, unlessRefused, stepOn, step, ranFrom, run}
+use Rattle.model.specs.Calls.{After, Refusal, RunAnswer, ran, notRun, boardRefusal, unless, unlessRefused, stepOn, step}
+use Rattle.model.specs.Calls.{ranFrom, run}
 use Rattle.model.specs.Told.{told, verdict, runTold}
 use Rattle.model.proofs.Calls.Refusals.{board-of, board-passes, unless-fails, unless-passes}
 use Rattle.model.proofs.Calls.CallsKeep.{stepOn-keeps}
@@ -50,19 +43,23 @@ count-below a = go (accepted (told a))
     go false = omega arith
 
 pub again : (is b : List ℕ) (i : ℕ) (d : List ℕ) (k : ℕ) → After-i is b i d k → i < length is
-    → (a : StepAnswer) (e : List ℕ) → StepsOn (getD is i 0) d a e → (m : ℕ) → m ≡ counts a → After-i is b (i + 1) e (k + m)
+    → (a : StepAnswer) (e : List ℕ) → StepsOn (getD is i 0) d a e → (m : ℕ) → m ≡ counts a
+    → After-i is b (i + 1) e (k + m)
 unfolding StepsOn counts taken answers after
 again is b i d k h l a e s m q = record {
   inside = omega arith;
   count =
       (λ j. h .count j + (q ∙ ap (λ (x : Answer Figure). cond (accepted x) 1 0) answer) j)
       ∙ omega (arith, taken-append (answers stepOn b (take i is)) (stepOn (getD is i 0) before .answer ∷ []))
-      ∙ ap taken (sym (ap (answers stepOn b) (one-more is i l) ∙ answers-append stepOn b (take i is) (getD is i 0 ∷ [])));
+      ∙ ap taken (sym (ap (answers stepOn b) (one-more is i l) ∙ answers-append stepOn b (take i is)
+      (getD is i 0 ∷ [])));
   below = omega (arith, h .below, count-below a);
   bytes =
       s .1 ∙ ap (λ (x : List ℕ). stepOn (getD is i 0) x .bytes) (h .bytes)
       ∙ sym (ap (after stepOn b) (one-more is i l) ∙ after-append stepOn b (take i is) (getD is i 0 ∷ []));
-  sound = subst (λ (x : List ℕ). boardRefusal x none ≡ none) (sym (s .1)) (board-passes _ (stepOn-keeps (getD is i 0) d (board-of d none (h .sound) .0)) none);
+  sound =
+      subst (λ (x : List ℕ). boardRefusal x none ≡ none) (sym (s .1))
+      (board-passes _ (stepOn-keeps (getD is i 0) d (board-of d none (h .sound) .0)) none);
 }
   where
     before : List ℕ
@@ -72,7 +69,8 @@ again is b i d k h l a e s m q = record {
     answer = s .0 ∙ ap (λ (x : List ℕ). stepOn (getD is i 0) x .answer) (h .bytes)
 
 -- the count stays far below what 32 bits hold
-pub small : (is b : List ℕ) (i : ℕ) (d : List ℕ) (k : ℕ) → After-i is b i d k → length is ≤ 65536 → (a : StepAnswer) (m : ℕ) → m ≡ counts a → k + m < 4294967296
+pub small : (is b : List ℕ) (i : ℕ) (d : List ℕ) (k : ℕ) → After-i is b i d k → length is ≤ 65536
+    → (a : StepAnswer) (m : ℕ) → m ≡ counts a → k + m < 4294967296
 small is b i d k h l a m q = omega (arith, h .below, h .inside, count-below a)
 
 pub ended : (is b : List ℕ) (i : ℕ) (d : List ℕ) (k : ℕ) → After-i is b i d k → length is ≤ i → RunsOn is b k d
@@ -101,11 +99,14 @@ refuses is b k e = (
 pub too-many : (is b : List ℕ) → 65536 < length is → (runTold (Refused 6) ≡ run is b .answer) × (b ≡ run is b .bytes)
 too-many is b h = refuses is b 6 (unless-fails (leb (length is) 65536) 6 _ (lt-leb (length is) 65536 h))
 
-pub board-refuses : (is b : List ℕ) → length is ≤ 65536 → (w : Verdict) (k : ℕ) → w ≡ verdicts.Refused k → verdict w ≡ boardRefusal b none
+pub board-refuses : (is b : List ℕ) → length is ≤ 65536 → (w : Verdict) (k : ℕ) → w ≡ verdicts.Refused k
+    → verdict w ≡ boardRefusal b none
     → (runTold (Refused k) ≡ run is b .answer) × (b ≡ run is b .bytes)
-board-refuses is b h w k e v = refuses is b k (unless-passes (leb (length is) 65536) 6 _ (le→leb (length is) 65536 h) ∙ turned b w k e v)
+board-refuses is b h w k e v =
+    refuses is b k (unless-passes (leb (length is) 65536) 6 _ (le→leb (length is) 65536 h) ∙ turned b w k e v)
 
-pub ran-through : (is b : List ℕ) → length is ≤ 65536 → boardRefusal b none ≡ none → (r : ℕ) (d : List ℕ) (p : ℕ) → RunsOn is b r d → p ≡ length is - r
+pub ran-through : (is b : List ℕ) → length is ≤ 65536 → boardRefusal b none ≡ none → (r : ℕ) (d : List ℕ) (p : ℕ)
+    → RunsOn is b r d → p ≡ length is - r
     → (runTold (Ran r p) ≡ run is b .answer) × (d ≡ run is b .bytes)
 unfolding RunsOn runTold
 ran-through is b l s r d p h e =

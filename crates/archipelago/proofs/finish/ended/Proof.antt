@@ -1,4 +1,5 @@
 -- `finish::ended` meets its contract: each return is a law of Ends.
+use Rattle.model.specs.Layout.{changed}
 use Rattle.collect.specs.Collected.{noting}
 use Rattle.model.proofs.Basics.Numbers.{landed}
 use Rattle.archipelago.proofs.Ends.{ended-nothing, ended-seen}
@@ -6,7 +7,7 @@ use Rattle.archipelago.proofs.finish.ended.Statement.{statement}
 use Rattle.archipelago.proofs.finish.ended.Tie as tie
 
 returns : tie.Need-returns
-unfolding noting
+unfolding noting changed
 returns c = search (landed, ended-nothing)
 
 pub ended-spec : {M : Type 1} → statement M

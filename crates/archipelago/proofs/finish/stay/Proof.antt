@@ -1,5 +1,5 @@
 -- `finish::stay` meets its contract, which names the value that it builds.
-use mathlib.Core.Path.{refl}
+use Rattle.model.proofs.Kit.{refl}
 use Rattle.archipelago.specs.Advanced.{staying}
 use Rattle.archipelago.proofs.finish.stay.Statement.{statement}
 use Rattle.archipelago.proofs.finish.stay.Tie as tie

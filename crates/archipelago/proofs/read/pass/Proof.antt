@@ -1,11 +1,12 @@
 -- `read::pass` meets its contract, which names the value that it builds.
-use borrow.Author.Needs.{needs}
-use Rattle.archipelago.specs.Advanced.{passing, at}
+use Rattle.model.proofs.Kit.{needs}
+use Rattle.model.specs.Layout.{changed}
+use Rattle.archipelago.specs.Advanced.{passing}
 use Rattle.archipelago.proofs.read.pass.Statement.{statement}
 use Rattle.archipelago.proofs.read.pass.Tie as tie
 
 returns : tie.Need-returns
-unfolding passing at
+unfolding passing changed
 returns c = c .stay .ensures
 
 pub pass-spec : {M : Type 1} → statement M

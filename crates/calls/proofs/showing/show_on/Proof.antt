@@ -1,5 +1,5 @@
 -- `showing::show_on` meets its contract: the line of the stations, closed, never passes 512 bytes, so 17 cannot arise.
-use borrow.Author.Needs.{needs}
+use Rattle.model.proofs.Kit.{needs}
 use Rattle.model.specs.Show.{text, textFrom}
 use Rattle.shown.specs.Puts.{lineOf}
 use Rattle.calls.proofs.Laws.Showing.{closes, shown-on}

@@ -1,5 +1,5 @@
 -- `telling::standing` meets its contract: the board's own refusals come first, then the station of a sound board.
-use borrow.Author.Needs.{needs}
+use Rattle.model.proofs.Kit.{needs}
 use Rattle.stepping.proofs.Laws.Checking.{passed}
 use Rattle.calls.proofs.Laws.Telling.{board-refuses}
 use Rattle.calls.proofs.telling.standing.Statement.{statement}
@@ -7,11 +7,5 @@ use Rattle.calls.proofs.telling.standing.Tie as tie
 
 pub standing-spec : {M : Type 1} → statement M
 standing-spec =
-    tie.close
-    (tie.spec
-    (λ c κs. search needs)
-    (λ c. search needs)
-    (λ c. search needs)
-    (λ c κs. search passed)
-    (λ c. search board-refuses)
-    (λ c. search needs))
+    tie.close (tie.spec (λ c κs. search needs) (λ c. search needs) (λ c. search needs) (λ c κs. search passed)
+    (λ c. search board-refuses) (λ c. search needs))

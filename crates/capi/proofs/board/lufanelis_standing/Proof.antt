@@ -1,9 +1,10 @@
 -- `board::lufanelis_standing` meets its contract: the call's own, with the answer packed.
-use borrow.Author.Needs.{needs}
-use mathlib.Core.Path.{ap, _∙_}
+use Rattle.model.proofs.Kit.{ap, _∙_, needs}
 use Rattle.packing.specs.Packing.{packStanding}
 use Rattle.capi.proofs.board.lufanelis_standing.Statement.{statement}
 use Rattle.capi.proofs.board.lufanelis_standing.Tie as tie
 
 pub lufanelis-standing-spec : {M : Type 1} → statement M
-lufanelis-standing-spec = tie.close (tie.spec (λ c κs. search needs) (λ c κs. search needs) (λ c. c .standing-number .ensures ∙ ap packStanding (search)))
+lufanelis-standing-spec =
+    tie.close (tie.spec (λ c κs. search needs) (λ c κs. search needs)
+    (λ c. c .standing-number .ensures ∙ ap packStanding (search)))

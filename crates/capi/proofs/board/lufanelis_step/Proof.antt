@@ -1,6 +1,5 @@
 -- `board::lufanelis_step` meets its contract: the call's own, with the answer packed.
-use borrow.Author.Needs.{needs}
-use mathlib.Core.Path.{ap, _∙_}
+use Rattle.model.proofs.Kit.{ap, _∙_, needs}
 use Rattle.packing.specs.Packing.{packStep}
 use Rattle.capi.proofs.board.lufanelis_step.Statement.{statement}
 use Rattle.capi.proofs.board.lufanelis_step.Tie as tie

@@ -1,6 +1,6 @@
 -- `put_phase`: one store is a splice of one byte.
-use borrow.Author.Needs.{needs}
-use Rattle.codec.proofs.Laws.Over.{phase-put}
+use Rattle.model.proofs.Kit.{needs}
+use Rattle.codec.proofs.Laws.Stores.{phase-put}
 use Rattle.codec.proofs.records.put_phase.Statement.{statement}
 use Rattle.codec.proofs.records.put_phase.Tie as tie
 

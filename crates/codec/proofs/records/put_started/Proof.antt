@@ -1,28 +1,19 @@
 -- `put_started`: the parts one after another.
-use mathlib.Core.Path.{_∙_}
-use borrow.Author.Needs.{needs}
-use lib.ListN.{length-set}
-use native.Mathlib.Omega.{arith}
-use Rattle.codec.proofs.Laws.Over.{started-put}
+use Rattle.model.proofs.Kit.{_∙_, needs, length-set, arith}
+use Rattle.codec.proofs.Laws.Stores.{started-put}
 use Rattle.codec.proofs.records.put_started.Statement.{statement}
 use Rattle.codec.proofs.records.put_started.Tie as tie
 
 same-length : tie.Need-same-length
 same-length c =
-    let figure = c .before .before .before .before .before .before in
-    c .before .before .put-collected .kept .0 ∙ figure .put-figure .kept .0 ∙ simp length-set (figure .before .before .before .before .before .put-phase .kept .0)
+    let collected = c .before .before in
+    let figure = collected .before .before .before .before in
+    let phase = figure .before .before .before .before .before in
+    collected .put-collected .kept .0 ∙ figure .put-figure .kept .0 ∙ simp length-set (phase .put-phase .kept .0)
 
 pub put-started-spec : {M : Type 1} → statement M
 put-started-spec =
-    tie.close
-    (tie.spec
-    (λ c κs. search needs)
-    (λ c. search needs)
-    (λ c. search needs)
-    (λ c. search needs)
-    (λ c. simp length-set (omega arith))
-    (λ c. search needs)
-    (λ c κs. simp length-set (omega arith))
-    (λ c κs. omega (arith, simp length-set at (c .before .before .before .put-figure .kept .0)))
-    same-length
+    tie.close (tie.spec (λ c κs. search needs) (λ c. search needs) (λ c. search needs) (λ c. search needs)
+    (λ c. simp length-set (omega arith)) (λ c. search needs) (λ c κs. simp length-set (omega arith))
+    (λ c κs. omega (arith, simp length-set at (c .before .before .before .put-figure .kept .0))) same-length
     (λ c. search (started-put, needs)))

@@ -1,5 +1,5 @@
 -- `write_register`: the eight bytes of the literal are those of the layout.
-use borrow.Author.Needs.{needs}
+use Rattle.model.proofs.Kit.{needs}
 use Rattle.figures.proofs.Laws.Signs.{passed}
 use Rattle.codec.proofs.Laws.Writes.{register-laid}
 use Rattle.codec.proofs.registers.write_register.Statement.{statement}
@@ -7,13 +7,5 @@ use Rattle.codec.proofs.registers.write_register.Tie as tie
 
 pub write-register-spec : {M : Type 1} → statement M
 write-register-spec =
-    tie.close
-    (tie.spec
-    (λ c κs. search needs)
-    (λ c. search needs)
-    (λ c. search needs)
-    (λ c. search needs)
-    (λ c. search needs)
-    (λ c κs. search needs)
-    (λ c. search needs)
-    (λ c. search (passed, register-laid)))
+    tie.close (tie.spec (λ c κs. search needs) (λ c. search needs) (λ c. search needs) (λ c. search needs)
+    (λ c. search needs) (λ c κs. search needs) (λ c. search needs) (λ c. search (passed, register-laid)))

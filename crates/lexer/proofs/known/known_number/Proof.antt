@@ -1,10 +1,7 @@
 -- `known::known_number` meets its contract: by the first byte, and the loop keeps what the digits passed have made.
-use Prim.Native.Nat.{_+_, _-_}
-use native.Mathlib.Omega.{arith}
-use lib.ListN.{length, getD}
-use Rattle.lexer.proofs.Laws.Numbers.{Along, begun, digit-more, below, above, ended, zero-read, from-digits}
-use Rattle.lexer.proofs.Laws.Known.{known-inside, first-digit, first-small, stays-small}
-use borrow.Author.Needs.{needs}
+use Rattle.model.proofs.Kit.{_+_, _-_, needs, length, getD, arith}
+use Rattle.lexer.proofs.Laws.Numbers.{Along, begun, digit-more, below, above, ended, zero-read}
+use Rattle.lexer.proofs.Laws.Known.{known-inside, first-digit, first-small, stays-small, known-read}
 use Rattle.lexer.proofs.known.known_number.Statement.{statement}
 use Rattle.lexer.proofs.known.known_number.Tie as tie
 
@@ -20,35 +17,12 @@ cast-value c = record { fits = omega (arith, first-digit _ _ (c .before .before 
 loop-holds : tie.Need-loop-holds Inv-loop μ-loop
 loop-holds c = begun _ _ _ _ (omega (arith, known-inside _ _ (c .before .before .pre))) (search first-small)
 
-returns-2 : tie.Need-returns-2 Inv-loop μ-loop
-returns-2 c = from-digits _ _ _ _ (known-inside _ _ (c .before .before .before .before .before .before .pre)) (omega arith) (first-digit _ _ (c .before .before .before .before .before .before .pre) (c .before .before .before .before .if1 .left) .0) (first-digit _ _ (c .before .before .before .before .before .before .pre) (c .before .before .before .before .if1 .left) .1) _ (below _ _ _ _ _ _ (c .before .before .before .loop .inv) (omega arith) (omega arith))
-
-returns-3 : tie.Need-returns-3 Inv-loop μ-loop
-returns-3 c = from-digits _ _ _ _ (known-inside _ _ (c .before .before .before .before .before .before .before .pre)) (omega arith) (first-digit _ _ (c .before .before .before .before .before .before .before .pre) (c .before .before .before .before .before .if1 .left) .0) (first-digit _ _ (c .before .before .before .before .before .before .before .pre) (c .before .before .before .before .before .if1 .left) .1) _ (above _ _ _ _ _ _ (c .before .before .before .before .loop .inv) (omega arith) (omega arith))
-
-returns-4 : tie.Need-returns-4 Inv-loop μ-loop
-returns-4 c = from-digits _ _ _ _ (known-inside _ _ (c .before .before .before .before .pre)) (omega arith) (first-digit _ _ (c .before .before .before .before .pre) (c .before .before .if1 .left) .0) (first-digit _ _ (c .before .before .before .before .pre) (c .before .before .if1 .left) .1) _ (ended _ _ _ _ _ _ (c .before .loop .inv) (omega arith))
-
 pub known-number-spec : {M : Type 1} → statement M
 known-number-spec =
-    tie.close
-    (tie.spec
-    Inv-loop
-    μ-loop
-    (λ c. search known-inside)
-    (λ c. omega (arith, known-inside _ _ (c .before .before .pre)))
-    (λ c. search (zero-read, known-inside, needs))
-    (λ c. omega (arith, first-digit _ _ (c .before .before .pre) (c .if1 .left) .0))
-    cast-value
-    (λ c. omega (arith, known-inside _ _ (c .before .before .pre)))
-    loop-holds
-    (λ c. search needs)
-    returns-2
-    returns-3
-    (λ c. search needs)
-    (λ c. search needs)
-    (λ c. search needs)
-    (λ c. search needs)
-    (λ c. search needs)
-    (λ c. search (digit-more, stays-small))
-    returns-4)
+    tie.close (tie.spec Inv-loop μ-loop (λ c. search known-inside)
+    (λ c. omega (arith, known-inside _ _ (c .before .before .pre))) (λ c. search (zero-read, known-inside, needs))
+    (λ c. omega (arith, first-digit _ _ (c .before .before .pre) (c .if1 .left) .0)) cast-value
+    (λ c. omega (arith, known-inside _ _ (c .before .before .pre))) loop-holds (λ c. search needs)
+    (λ c. search (known-read, below)) (λ c. search (known-read, above)) (λ c. search needs) (λ c. search needs)
+    (λ c. search needs) (λ c. search needs) (λ c. search needs) (λ c. search (digit-more, stays-small))
+    (λ c. search (known-read, ended)))

@@ -1,7 +1,6 @@
 -- `number::number` meets its contract: by the first byte, and behind it the digits.
-use native.Mathlib.Omega.{arith}
+use Rattle.model.proofs.Kit.{needs, arith}
 use Rattle.lexer.proofs.Laws.Numbers.{no-byte, below-number, above-number, from-digits, zero-refused, zero-read}
-use borrow.Author.Needs.{needs}
 use Rattle.lexer.proofs.number.number.Statement.{statement}
 use Rattle.lexer.proofs.number.number.Tie as tie
 
@@ -10,16 +9,8 @@ returns-4 c = from-digits _ _ _ _ (omega arith) (omega arith) (omega arith) (ome
 
 pub number-spec : {M : Type 1} → statement M
 number-spec =
-    tie.close
-    (tie.spec
-    (λ c. no-byte _ _ _ _ (omega arith))
-    (λ c. search needs)
-    (λ c. below-number _ _ _ _ (omega arith) (omega arith))
-    (λ c. above-number _ _ _ _ (omega arith) (omega arith))
-    (λ c. search needs)
-    (λ c. search needs)
-    (λ c κs. search needs)
-    returns-4
-    (λ c. zero-refused _ _ _ _ (omega arith) (omega arith) (omega arith))
-    (λ c. search needs)
+    tie.close (tie.spec (λ c. no-byte _ _ _ _ (omega arith)) (λ c. search needs)
+    (λ c. below-number _ _ _ _ (omega arith) (omega arith)) (λ c. above-number _ _ _ _ (omega arith) (omega arith))
+    (λ c. search needs) (λ c. search needs) (λ c κs. search needs) returns-4
+    (λ c. zero-refused _ _ _ _ (omega arith) (omega arith) (omega arith)) (λ c. search needs)
     (λ c. zero-read _ _ _ _ (omega arith) (omega arith) (omega arith)))

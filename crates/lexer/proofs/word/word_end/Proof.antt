@@ -1,8 +1,6 @@
--- `word::word_end` meets its contract: the loop keeps that the bytes passed belong to the word, and each way out is a law of Words.
--- The measure is what is left of the line.
-use Prim.Native.Nat.{_-_}
-use borrow.Author.Needs.{needs}
-use lib.ListN.{length}
+-- `word::word_end` meets its contract: the loop keeps that the bytes passed belong to the word, and each way out is a
+-- law of Words. The measure is what is left of the line.
+use Rattle.model.proofs.Kit.{_-_, needs, length}
 use Rattle.lexer.proofs.Laws.Words.{Reached, begun, goes-on, at-space, at-open, at-close, at-end}
 use Rattle.lexer.proofs.word.word_end.Statement.{statement}
 use Rattle.lexer.proofs.word.word_end.Tie as tie
@@ -15,16 +13,6 @@ abbrev μ-loop : tie.MeasureT-loop
 
 pub word-end-spec : {M : Type 1} → statement M
 word-end-spec =
-    tie.close
-    (tie.spec
-    Inv-loop
-    μ-loop
-    (λ c. begun _ (c .pre))
-    (λ c. search needs)
-    (λ c. search at-space)
-    (λ c. search at-open)
-    (λ c. search at-close)
-    (λ c. search needs)
-    (λ c. search needs)
-    (λ c. search goes-on)
+    tie.close (tie.spec Inv-loop μ-loop (λ c. begun _ (c .pre)) (λ c. search needs) (λ c. search at-space)
+    (λ c. search at-open) (λ c. search at-close) (λ c. search needs) (λ c. search needs) (λ c. search goes-on)
     (λ c. search at-end))

@@ -1,6 +1,6 @@
 -- `line::play_line` meets its contract: each form as its own player plays it, and refusals 2 to 4.
 -- Relies on the laws of a line by its reading.
-use borrow.Author.Needs.{needs}
+use Rattle.model.proofs.Kit.{needs}
 use Rattle.player.proofs.Laws.Playing.{same-figure}
 use Rattle.player.proofs.Laws.Reading.{line-turned, line-board, line-propose, line-steps, line-show, line-counts}
 use Rattle.player.proofs.line.play_line.Statement.{statement}
@@ -8,25 +8,8 @@ use Rattle.player.proofs.line.play_line.Tie as tie
 
 pub play-line-spec : {M : Type 1} → statement M
 play-line-spec =
-    tie.close
-    (tie.spec
-    (λ c κs. search needs)
-    (λ c. search needs)
-    (λ c κs. search needs)
-    (λ c. search needs)
-    (λ c κs. search needs)
-    (λ c. search needs)
-    (λ c κs. search needs)
-    (λ c. search needs)
-    (λ c κs. search line-counts)
-    (λ c. search needs)
-    (λ c κs. search needs)
-    (λ c. search line-turned)
-    (λ c. search needs)
-    (λ c. search line-board)
-    (λ c. search needs)
-    (λ c. search (same-figure, line-propose, needs))
-    (λ c. search needs)
-    (λ c. search line-steps)
-    (λ c. search needs)
-    (λ c. search line-show))
+    tie.close (tie.spec (λ c κs. search needs) (λ c. search needs) (λ c κs. search needs) (λ c. search needs)
+    (λ c κs. search needs) (λ c. search needs) (λ c κs. search needs) (λ c. search needs) (λ c κs. search line-counts)
+    (λ c. search needs) (λ c κs. search needs) (λ c. search line-turned) (λ c. search needs) (λ c. search line-board)
+    (λ c. search needs) (λ c. search (same-figure, line-propose, needs)) (λ c. search needs) (λ c. search line-steps)
+    (λ c. search needs) (λ c. search line-show))

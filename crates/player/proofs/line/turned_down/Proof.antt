@@ -1,5 +1,5 @@
 -- `line::turned_down` meets its contract: the refused line, and what was laid stays.
-use borrow.Author.Needs.{needs}
+use Rattle.model.proofs.Kit.{needs}
 use Rattle.player.proofs.Laws.Playing.{turned}
 use Rattle.player.proofs.line.turned_down.Statement.{statement}
 use Rattle.player.proofs.line.turned_down.Tie as tie

@@ -1,8 +1,7 @@
 -- `fields_sound`: the first clause that fails decides.
-use borrow.Author.Needs.{needs}
-use mathlib.Core.Path.{_∙_}
+use Rattle.model.proofs.Kit.{needs}
 use Rattle.model.specs.Sound.{fieldsSound}
-use Rattle.record_soundness.proofs.Laws.Chains.{no, yes, fail1, fail2, fail3, fail4, pass}
+use Rattle.record_soundness.proofs.Laws.Chains.{no, yes, fail1, fail2, fail3, fail4, ends}
 use Rattle.record_soundness.proofs.fields.fields_sound.Statement.{statement}
 use Rattle.record_soundness.proofs.fields.fields_sound.Tie as tie
 
@@ -24,19 +23,9 @@ returns-4 c = search (no, yes, fail4)
 
 returns-5 : tie.Need-returns-5
 unfolding fieldsSound
-returns-5 c = (c .seen-known .ensures) ∙ pass _ _ _ _ _ (yes _ _ (c .before .before .before .before .before .before .before .before .always-sound .ensures) (c .before .before .before .before .before .before .before .if1 .left)) (yes _ _ (c .before .before .before .before .before .before .collect-zero .ensures) (c .before .before .before .before .before .if2 .left)) (yes _ _ (c .before .before .before .before .best-island-zero .ensures) (c .before .before .before .if3 .left)) (yes _ _ (c .before .before .best-zero .ensures) (c .before .if4 .left))
+returns-5 c = search (yes, ends)
 
 pub fields-sound-spec : {M : Type 1} → statement M
 fields-sound-spec =
-    tie.close
-    (tie.spec
-    (λ c κs. search needs)
-    returns
-    (λ c κs. search needs)
-    returns-2
-    (λ c κs. search needs)
-    returns-3
-    (λ c κs. search needs)
-    returns-4
-    (λ c κs. search needs)
-    returns-5)
+    tie.close (tie.spec (λ c κs. search needs) returns (λ c κs. search needs) returns-2 (λ c κs. search needs) returns-3
+    (λ c κs. search needs) returns-4 (λ c κs. search needs) returns-5)

@@ -1,5 +1,5 @@
 -- `form::closes` meets its contract: one byte is left, and it is the bracket.
-use borrow.Author.Needs.{needs}
+use Rattle.model.proofs.Kit.{needs}
 use Rattle.sheet.proofs.Laws.Depth.{not-last, last}
 use Rattle.sheet.proofs.form.closes.Statement.{statement}
 use Rattle.sheet.proofs.form.closes.Tie as tie

@@ -1,7 +1,7 @@
 -- `item::times` meets its contract: the word, the number behind it, and the space.
 use Rattle.model.specs.Show.{text, textFrom}
 use Rattle.sheet.proofs.Laws.Times.{times-other, times-unnumbered, times-unspaced, times-ended, times-read}
-use borrow.Author.Needs.{needs}
+use Rattle.model.proofs.Kit.{needs}
 use Rattle.sheet.proofs.item.times.Statement.{statement}
 use Rattle.sheet.proofs.item.times.Tie as tie
 
@@ -27,18 +27,6 @@ returns-5 c = search times-read
 
 pub times-spec : {M : Type 1} → statement M
 times-spec =
-    tie.close
-    (tie.spec
-    (λ c. search needs)
-    (λ c κs. search needs)
-    (λ c. search needs)
-    (λ c. search needs)
-    returns
-    (λ c κs. search needs)
-    (λ c. search needs)
-    (λ c. search needs)
-    returns-2
-    returns-3
-    (λ c. search needs)
-    returns-4
+    tie.close (tie.spec (λ c. search needs) (λ c κs. search needs) (λ c. search needs) (λ c. search needs) returns
+    (λ c κs. search needs) (λ c. search needs) (λ c. search needs) returns-2 returns-3 (λ c. search needs) returns-4
     returns-5)

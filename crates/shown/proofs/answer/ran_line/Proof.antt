@@ -1,6 +1,5 @@
 -- `answer::ran_line` meets its contract: the word and the two numbers in order are a law of Answers.
-use mathlib.Core.Path.{refl}
-use borrow.Author.Needs.{needs}
+use Rattle.model.proofs.Kit.{refl, needs}
 use Rattle.model.specs.Show.{text, textFrom}
 use Rattle.shown.proofs.Rooms.{room-first, room-next}
 use Rattle.shown.proofs.Answers.{ran-room, holds-ran}
@@ -17,5 +16,5 @@ returns c = search holds-ran
 
 pub ran-line-spec : {M : Type 1} → statement M
 ran-line-spec =
-    tie.close
-    (tie.spec (λ c κs. search needs) (λ c. refl) (λ c κs. search (room-first, ran-room, needs)) write-two-requires returns)
+    tie.close (tie.spec (λ c κs. search needs) (λ c. refl)
+    (λ c κs. search (room-first, ran-room, needs)) write-two-requires returns)

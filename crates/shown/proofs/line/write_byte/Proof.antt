@@ -1,5 +1,5 @@
 -- `line::write_byte` meets its contract: its return is a law of Putting.
-use borrow.Author.Needs.{needs}
+use Rattle.model.proofs.Kit.{needs}
 use Rattle.shown.specs.Puts.{lineOf}
 use Rattle.shown.proofs.Putting.{puts-byte}
 use Rattle.shown.proofs.line.write_byte.Statement.{statement}

@@ -1,7 +1,5 @@
 -- `status::opened` meets its contract: the bytes are the text's, after nothing.
-use mathlib.Core.Path.{refl}
-use mathlib.Core.List.{[]}
-use borrow.Author.Needs.{needs}
+use Rattle.model.proofs.Kit.{refl, [], needs}
 use Rattle.model.specs.Show.{text, textFrom}
 use Rattle.shown.proofs.Putting.{puts-holds}
 use Rattle.shown.proofs.Rooms.{holds-room}

@@ -1,11 +1,8 @@
 -- `status::write_phase` meets its contract: as the station stands, the text is that of a law of Statuses.
-use mathlib.Core.Path.{refl, sym}
-use borrow.Author.Needs.{needs}
-use mir.Facts.{toZ-ofZ}
+use Rattle.model.proofs.Kit.{needs}
 use Rattle.model.specs.Show.{text, textFrom}
-use Rattle.shown.proofs.Putting.{puts-same}
 use Rattle.shown.proofs.Rooms.{room-same}
-use Rattle.shown.proofs.Statuses.{idle-text, going-text, decided-text, spent-text, room-as, puts-as}
+use Rattle.shown.proofs.Statuses.{idle-text, idle-puts, going-text, decided-text, spent-text, room-as, puts-as}
 use Rattle.shown.proofs.status.write_phase.Statement.{statement}
 use Rattle.shown.proofs.status.write_phase.Tie as tie
 
@@ -15,19 +12,19 @@ write-word-requires c κs = search (room-same, idle-text)
 
 write-standing-requires : tie.Need-write-standing-requires
 unfolding text textFrom
-write-standing-requires c κs = room-as _ _ _ _ _ (going-text (c .before .before .before .before .before .before .args .station) _ (c .before .before .before .before .before .standing-of .ensures) _ _ (c .before .before .before .stands .given .1)) (toZ-ofZ (search needs)) _ refl (c .before .before .before .before .before .before .pre)
+write-standing-requires c κs = search (room-as, going-text, needs)
 
 write-standing-requires-2 : tie.Need-write-standing-requires-2
 unfolding text textFrom
-write-standing-requires-2 c κs = room-as _ _ _ _ _ (decided-text (c .before .before .before .before .before .before .args .station) _ (c .before .before .before .before .before .standing-of .ensures) _ _ (c .before .before .before .stands2 .given .1)) (toZ-ofZ (search needs)) _ refl (c .before .before .before .before .before .before .pre)
+write-standing-requires-2 c κs = search (room-as, decided-text, needs)
 
 write-standing-requires-3 : tie.Need-write-standing-requires-3
 unfolding text textFrom
-write-standing-requires-3 c κs = room-as _ _ _ _ _ (spent-text (c .before .before .before .before .before .before .args .station) _ (c .before .before .before .before .before .standing-of .ensures) _ _ (c .before .before .before .stands3 .given .1)) (toZ-ofZ (search needs)) _ refl (c .before .before .before .before .before .before .pre)
+write-standing-requires-3 c κs = search (room-as, spent-text, needs)
 
 returns : tie.Need-returns
 unfolding text textFrom
-returns c = puts-same (sym (idle-text _ _ (c .before .before .before .before .before .standing-of .ensures) (c .before .before .before .enum-told .given .1))) (c .write-word .ensures)
+returns c = search idle-puts
 
 returns-2 : tie.Need-returns-2
 unfolding text textFrom
@@ -43,22 +40,7 @@ returns-4 c = search (spent-text, puts-as, needs)
 
 pub write-phase-spec : {M : Type 1} → statement M
 write-phase-spec =
-    tie.close
-    (tie.spec
-    (λ c κs. search needs)
-    (λ c. search needs)
-    (λ c. search needs)
-    write-word-requires
-    (λ c. search needs)
-    (λ c. search needs)
-    write-standing-requires
-    (λ c. search needs)
-    (λ c. search needs)
-    write-standing-requires-2
-    (λ c. search needs)
-    (λ c. search needs)
-    write-standing-requires-3
-    returns
-    returns-2
-    returns-3
-    returns-4)
+    tie.close (tie.spec (λ c κs. search needs) (λ c. search needs) (λ c. search needs) write-word-requires
+    (λ c. search needs) (λ c. search needs) write-standing-requires (λ c. search needs) (λ c. search needs)
+    write-standing-requires-2 (λ c. search needs) (λ c. search needs) write-standing-requires-3 returns returns-2
+    returns-3 returns-4)

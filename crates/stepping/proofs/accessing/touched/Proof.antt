@@ -1,8 +1,6 @@
 -- `accessing::touched` meets its contract:
 -- at each phase the row and the column are those of the stage that the record stands for.
-use mathlib.Core.Path.{refl}
-use native.Mathlib.Omega.{arith}
-use borrow.Author.Needs.{needs}
+use Rattle.model.proofs.Kit.{refl, needs, arith}
 use Rattle.model.specs.Listing.{turnM, turnA, turnB, writing, reading, array, placeArray, placeColumn}
 use Rattle.model.specs.Layout.{rowOf, registerAt, writingOf, readingOf, ofPhase}
 use Rattle.stepping.proofs.Laws.Touching.{touch}
@@ -35,27 +33,7 @@ returns-6 c = touch _ _ _ 6 (reading (turnB _) _ _ _ _) _ (omega arith) refl (c 
 
 pub touched-spec : {M : Type 1} → statement M
 touched-spec =
-    tie.close
-    (tie.spec
-    (λ c. search needs)
-    (λ c. search needs)
-    (λ c κs. search needs)
-    returns
-    (λ c κs. search needs)
-    returns-2
-    (λ c. search needs)
-    (λ c. search needs)
-    (λ c κs. search needs)
-    returns-3
-    (λ c. search needs)
-    (λ c. search needs)
-    (λ c κs. search needs)
-    returns-4
-    (λ c. search needs)
-    (λ c. search needs)
-    (λ c κs. search needs)
-    returns-5
-    (λ c. search needs)
-    (λ c. search needs)
-    (λ c κs. search needs)
-    returns-6)
+    tie.close (tie.spec (λ c. search needs) (λ c. search needs) (λ c κs. search needs) returns (λ c κs. search needs)
+    returns-2 (λ c. search needs) (λ c. search needs) (λ c κs. search needs) returns-3 (λ c. search needs)
+    (λ c. search needs) (λ c κs. search needs) returns-4 (λ c. search needs) (λ c. search needs) (λ c κs. search needs)
+    returns-5 (λ c. search needs) (λ c. search needs) (λ c κs. search needs) returns-6)

@@ -1,9 +1,0 @@
--- `lines::lufanelis_word` meets its contract: no form's word has more than seven bytes, so its length fits its bits.
--- Relies on the laws of lines.
-use borrow.Author.Needs.{needs}
-use Rattle.capi.proofs.Laws.Lines.{word-fits, word-is}
-use Rattle.capi.proofs.lines.lufanelis_word.Statement.{statement}
-use Rattle.capi.proofs.lines.lufanelis_word.Tie as tie
-
-pub lufanelis-word-spec : {M : Type 1} → statement M
-lufanelis-word-spec = tie.close (tie.spec (λ c κs. search needs) (λ c κs. word-fits _ _ (c .form-word .ensures .bytes)) (λ c. search word-is))

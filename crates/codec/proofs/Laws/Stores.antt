@@ -1,0 +1,66 @@
+-- The stores of the functions that put a figure or a part of a record: each store is a splice of its field.
+-- Relies on the laws on splices of the crate model; the proofs of those functions rely on it.
+use Rattle.model.proofs.Kit.{_≡_, refl, sym, ap, _∙_, List, [], _∷_, ℕ, suc, _+_, _≤_, _<_, lit<, length, set}
+use Rattle.model.proofs.Kit.{length-set, add-zero, arith}
+use lib.Seq.{sets-eq}
+use Rattle.model.specs.declared.Record.{Record}
+use Rattle.model.specs.Bytes.{byte, splice, digits}
+use Rattle.model.specs.Figure.{Figure, figureBytes}
+use Rattle.model.specs.Layout.{putChanges}
+use Rattle.model.proofs.Basics.Splices.{splice-set}
+use Rattle.codec.specs.Parts.{phasePart, collectedPart, startedPart}
+
+pub figure-put : (v : Figure) (at : ℕ) (b f : List ℕ) → at + 4 ≤ length b → f ≡ figureBytes v
+    → set (set (set (set b at (byte f 0)) (at + 1) (byte f 1)) (at + 2) (byte f 2)) (at + 3) (byte f 3)
+    ≡ splice at (figureBytes v) b
+unfolding splice figureBytes digits
+figure-put v at b f h e =
+    (λ k. set (set (set (set b at (byte (e k) 0)) (one k) (byte (e k) 1)) (two k) (byte (e k) 2)) (three k)
+    (byte (e k) 3))
+    ∙ sets-eq (figureBytes v) b at (omega arith)
+  where
+    one : at + 1 ≡ suc at
+    one = omega arith
+
+    two : at + 2 ≡ suc (suc at)
+    two = omega arith
+
+    three : at + 3 ≡ suc (suc (suc at))
+    three = omega arith
+
+-- the bytes p are d after some stores, which leave their length n; and one store more
+record After (n : ℕ) (p d : List ℕ) : Type 0 where
+  long : length p ≡ n
+  is : p ≡ d
+
+module _ (r : Record) (at : ℕ) (b : List ℕ) (h : at + 24 ≤ length b) where
+  pub phase-put : set b at (r .phase) ≡ putChanges (phasePart r) at b
+  unfolding putChanges phasePart
+  phase-put = splice-set at (r .phase) b (omega arith) ∙ ap (λ (k : ℕ). splice k (r .phase ∷ []) b) (sym (add-zero at))
+
+  then : (i a : ℕ) → i < 24 → {p d : List ℕ} → After (length b) p d
+      → After (length b) (set p (at + i) a) (splice (at + i) (a ∷ []) d)
+  then i a l {p} s = record {
+    long = simp length-set (s .long);
+    is = splice-set (at + i) a p (omega (arith, s .long)) ∙ ap (splice (at + i) (a ∷ [])) (s .is);
+  }
+
+  pub collected-put : (y : Figure) (d : List ℕ) → y ≡ r .best
+      → d ≡ splice (at + 16) (figureBytes y)
+      (set (set (set b (at + 1) (r .position)) (at + 3) (r .seen)) (at + 4) (r .highest))
+      → d ≡ putChanges (collectedPart r) at b
+  unfolding putChanges collectedPart
+  collected-put y d e q =
+      let start : After (length b) b b = record { long = refl; is = refl } in
+      let stores = then 4 (r .highest) (lit< tt) (then 3 (r .seen) (lit< tt) (then 1 (r .position) (lit< tt) start)) in
+      q ∙ (λ k. splice (at + 16) (figureBytes (e k)) (stores .is k))
+
+  pub started-put : (x : Figure) (p c d : List ℕ) → p ≡ putChanges (phasePart r) at b → length p ≡ length b
+      → x ≡ r .carried
+      → c ≡ splice (at + 12) (figureBytes x) (set (set p (at + 2) (r .island)) (at + 5) (r .flag))
+      → d ≡ putChanges (collectedPart r) at c → d ≡ putChanges (startedPart r) at b
+  unfolding putChanges phasePart startedPart
+  started-put x p c d ep l e ec ed =
+      let start : After (length b) p (putChanges (phasePart r) at b) = record { long = l; is = ep } in
+      let stores = then 5 (r .flag) (lit< tt) (then 2 (r .island) (lit< tt) start) in
+      ed ∙ ap (putChanges (collectedPart r) at) (ec ∙ (λ k. splice (at + 12) (figureBytes (e k)) (stores .is k)))

@@ -1,0 +1,3 @@
+-- What the inner functions of the board's test promise.
+pub mod Shaped
+pub mod Placed

@@ -1,6 +1,0 @@
--- Laws of the walk, by subject.
-pub mod Fuel
-pub mod Walking
-pub mod Idle
-pub mod Passing
-pub mod Counting

@@ -1,9 +1,0 @@
--- `round_after` meets its contract: by the steps taken, all rounds or one more.
--- Relies on the laws of an idle round.
-use borrow.Author.Needs.{needs}
-use Rattle.walk.proofs.Laws.Idle.{none-left, one-more}
-use Rattle.walk.proofs.round_after.Statement.{statement}
-use Rattle.walk.proofs.round_after.Tie as tie
-
-pub round-after-spec : {M : Type 1} → statement M
-round-after-spec = tie.close (tie.spec (λ c. none-left _ _ _ (c .if1 .taken)) (λ c. search needs) (λ c. one-more _ _ _ (c .if1 .left)))
