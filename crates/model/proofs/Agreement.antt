@@ -14,6 +14,6 @@ pub mod Read
 pub mod Settle
 pub mod Writes
 pub mod Write
-pub mod Calls
+pub mod StateCalls
 pub mod Decisions
 pub mod Steps

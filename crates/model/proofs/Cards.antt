@@ -6,7 +6,7 @@ use Rattle.model.specs.Bytes.{byte}
 use Rattle.model.specs.Figure.{Figure}
 use Rattle.model.specs.Listing.{Answer}
 use Rattle.model.specs.Calls.{After, RunAnswer, ran, notRun}
-use Rattle.model.specs.Bytes.{number as bytesNumber, digits, part, splice, zeros, every, implies}
+use Rattle.model.specs.Bytes.{number, digits, part, splice, zeros, every, implies}
 use Rattle.model.specs.Figure.{figure, figureBytes, sameFigure, above, figures}
 use Rattle.model.specs.Listing.{array, placeArray, placeColumn, accepted, outcome, entry, proposed, stay, onward}
 use Rattle.model.specs.Listing.{finish, ended, larger, pairAbove, add, see, move}
@@ -65,7 +65,7 @@ pub shut-out : ShutOut
 unfolding ShutOut AllDiffer rows at same different taken movedBy by listing ending refusesAll leavesIdle zeroAt seeAll
     wholeAtFirst
     spentAt wholeInOne oldAt ownIslandAt counted emptiesCounted ownLargestAt presentAt proposeAll boardAfter after
-    bytesNumber digits part splice zeros every implies figure figureBytes sameFigure above figures array placeArray
+    number digits part splice zeros every implies figure figureBytes sameFigure above figures array placeArray
     placeColumn accepted outcome entry proposed stay onward finish ended larger pairAbove add see move flagOf flagNumber
     boardLength rowOf registerAt recordAt freshBoard readRegister layRegister registerFields registerValue seenNumber
     bestIsland bestFigure seenOf writePhase flagByte readRecord layRecord fields recordFields recordValue writingOf

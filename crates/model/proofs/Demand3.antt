@@ -18,7 +18,7 @@ use Rattle.model.proofs.Listing.Collect.{Filled}
 use Rattle.model.proofs.Calls.Refusals.{Shape, laid-fresh}
 use Rattle.model.proofs.Calls.CallsKeep.{fresh-board, station-of-fits}
 use Rattle.model.proofs.Agreement.State.{State, initial}
-use Rattle.model.proofs.Agreement.Calls.{Inv, inv-initial}
+use Rattle.model.proofs.Agreement.StateCalls.{Inv, inv-initial}
 use Rattle.model.proofs.Agreement.Decisions as invariant
 use Rattle.model.proofs.Bridge.View.{inside, there, view, view-station}
 use Rattle.model.proofs.Bridge.Lists.{Held, ready, held-after}

@@ -2,7 +2,7 @@
 -- Relies on the definitions alone.
 use Rattle.model.proofs.Kit.{refl}
 use Rattle.model.specs.Starred.{Starred, Holds, rows, sheet, asLines, layIn}
-use Rattle.model.specs.Bytes.{number as bytesNumber, digits, part, splice, zeros, every, implies}
+use Rattle.model.specs.Bytes.{number, digits, part, splice, zeros, every, implies}
 use Rattle.model.specs.Figure.{figure, figureBytes, sameFigure, above, figures}
 use Rattle.model.specs.Listing.{array, placeArray, placeColumn, accepted, outcome, entry, proposed, stay, onward}
 use Rattle.model.specs.Listing.{finish, ended, larger, pairAbove, add, see, move}
@@ -34,7 +34,7 @@ use Rattle.model.specs.Sheet.{playBoard, onBoard, playForm, playReading,
 use Rattle.model.specs.Sheet.{playSheet}
 
 pub starred : Starred
-unfolding Starred Holds rows sheet asLines layIn bytesNumber digits part splice zeros every implies figure figureBytes
+unfolding Starred Holds rows sheet asLines layIn number digits part splice zeros every implies figure figureBytes
     sameFigure above figures array placeArray placeColumn accepted entry proposed stay onward finish ended larger
     pairAbove add see move flagOf flagNumber boardLength rowOf registerAt recordAt freshBoard readRegister layRegister
     registerFields registerValue seenNumber bestIsland bestFigure seenOf writePhase flagByte readRecord layRecord fields

@@ -62,12 +62,12 @@ touched n i idle b = empty
 touched n i (active v s) b = registerOf n (placeArray s) (placeColumn i s) b
 
 -- a station whose next step reads
-unfoldable pub Reading : Station Figure → Type 0
-Reading idle = ⊥
-Reading (active v (writing t c x)) = ⊥
-Reading (active v (reading t c x p a)) = Unit {0}
-Reading (active v (has-decided c x)) = ⊥
-Reading (active v (is-spent c x)) = ⊥
+unfoldable pub ReadsNext : Station Figure → Type 0
+ReadsNext idle = ⊥
+ReadsNext (active v (writing t c x)) = ⊥
+ReadsNext (active v (reading t c x p a)) = Unit {0}
+ReadsNext (active v (has-decided c x)) = ⊥
+ReadsNext (active v (is-spent c x)) = ⊥
 
 -- Two sound boards of one n and K that agree on the station's record and, where it reads, on the one register: one and
 -- the same effect is what the step does to both.
@@ -75,7 +75,7 @@ unfoldable pub Local : Type 0
 Local =
     (n K i : ℕ) (b d : List ℕ) → Passes b → Passes d → stations b ≡ n → stations d ≡ n → islands b ≡ K → islands d ≡ K
     → recordOf n K (i - 1) b ≡ recordOf n K (i - 1) d
-    → (Reading (stationOf n K (i - 1) b)
+    → (ReadsNext (stationOf n K (i - 1) b)
     → touched n (i - 1) (stationOf n K (i - 1) b) b ≡ touched n (i - 1) (stationOf n K (i - 1) b) d)
     → (e : Effect) × (step i b ≡ apply e b) × (step i d ≡ apply e d)
 

@@ -12,7 +12,7 @@ use Rattle.model.proofs.Agreement.PairsA.{committed}
 use Rattle.model.proofs.Agreement.PairsB.{MayPass, past}
 use Rattle.model.proofs.Agreement.Licences.{Out, Licensed}
 use Rattle.model.proofs.Agreement.Invariant.{Kept, own-at, held-at}
-use Rattle.model.proofs.Agreement.Calls.{Inv}
+use Rattle.model.proofs.Agreement.StateCalls.{Inv}
 
 module _ {F : Type 0} {n : ℕ} {f : ℕ → Cell F} (h : Kept n f) where
   -- two commits on one island are of one figure

@@ -11,7 +11,7 @@ use Rattle.model.proofs.Agreement.State.{State, sameArray, putWritten, 
 use Rattle.model.proofs.Agreement.Cells.{cells}
 use Rattle.model.proofs.Listing.Collect.{Filled, entry-fills}
 use Rattle.model.proofs.Agreement.Own.{Begun}
-use Rattle.model.proofs.Agreement.Calls.{Inv}
+use Rattle.model.proofs.Agreement.StateCalls.{Inv}
 
 module _ {F : Type 0} where
   -- what is written, if anything, is a filled register

@@ -12,7 +12,7 @@ use Rattle.model.proofs.Basics.Tests.{by-test}
 use Rattle.model.proofs.Board.Codec.{Fits}
 use Rattle.model.proofs.Calls.Refusals.{Board, refusal-case}
 use Rattle.model.proofs.Calls.Refused.{lay-refused, propose-refused, step-refused}
-use Rattle.model.proofs.Agreement.Calls.{Inv, inv-propose, inv-move}
+use Rattle.model.proofs.Agreement.StateCalls.{Inv, inv-propose, inv-move}
 use Rattle.model.proofs.Bridge.View.{view, view-station}
 use Rattle.model.proofs.Bridge.Single.{Ready, step-ready, propose-ready, ProposeSim, propose-sim, StepSim}
 use Rattle.model.proofs.Bridge.Single.{step-sim}

@@ -8,7 +8,7 @@ use Rattle.model.specs.Listing.{refused, wrote, nothing, entry, array, m
 use Rattle.model.specs.Layout.{registerAt, recordAt, registerOf, recordOf, stationOf}
 use Rattle.model.specs.Calls.{After, Refusal, unless, stations, islands, stationRefusal, stationAt, unlessRefused}
 use Rattle.model.specs.Calls.{putStation, putRegister, notGoing, access, stepped, stepOn, step}
-use Rattle.model.specs.Claims.{Change, change, Effect, apply, touched, Reading}
+use Rattle.model.specs.Claims.{Change, change, Effect, apply, touched, ReadsNext}
 use Rattle.model.proofs.Board.Codec.{registerBytes, recordBytes, station}
 use Rattle.model.proofs.Board.Boards.{station-other, register-record}
 use Rattle.model.proofs.Listing.Written.{read-writes}
@@ -27,9 +27,9 @@ abbrev own : (n K i : ℕ) → Figure → Stage Figure → Change
 own n K i v s = at (recordAt n K i) (recordBytes (active v s))
 
 -- a step by the station's record z, where both boards have one register at its place
-stepped-one : (n K i : ℕ) (z : Station Figure) (b d : List ℕ) → (Reading z → touched n i z b ≡ touched n i z d)
+stepped-one : (n K i : ℕ) (z : Station Figure) (b d : List ℕ) → (ReadsNext z → touched n i z b ≡ touched n i z d)
     → OneEffect b d (stepped n K i z b) (stepped n K i z d)
-unfolding stepped access apply change touched Reading placeArray placeColumn putStation putRegister
+unfolding stepped access apply change touched ReadsNext placeArray placeColumn putStation putRegister
 stepped-one n K i idle b d e = (record { answer = refused 14; changes = [] }, refl, refl)
 stepped-one n K i (active v (writing t c x)) b d e =
     let written = at (registerAt n (array t c) i) (registerBytes (entry t c x)) in
@@ -62,7 +62,7 @@ step-as n K i b z h en eK ez = rw (← ez, ← en, ← eK) (step-on i b h)
 -- the same effect is what the step does to both.
 pub local : (n K i : ℕ) (b d : List ℕ) → Board b → Board d
     → stations b ≡ n → stations d ≡ n → islands b ≡ K → islands d ≡ K → recordOf n K (i - 1) b ≡ recordOf n K (i - 1) d
-    → (Reading (stationOf n K (i - 1) b)
+    → (ReadsNext (stationOf n K (i - 1) b)
     → touched n (i - 1) (stationOf n K (i - 1) b) b ≡ touched n (i - 1) (stationOf n K (i - 1) b) d)
     → OneEffect b d (step i b) (step i d)
 unfolding stationOf
