@@ -6,7 +6,7 @@ use Rattle.model.specs.declared.Record.{Record}
 use Rattle.model.specs.declared.Register as Fields
 use Rattle.model.specs.declared.StepAnswer.the-variants.{Read}
 use Rattle.model.specs.Figure.{Figure, figures}
-use Rattle.model.specs.Listing.{Turn, turnM, turnA, turnB, Seen, Stage, reading, active, Register}
+use Rattle.model.specs.Listing.{Turn, turnM, turnA, turnB, Seen, Station, Stage, reading, active, Register}
 use Rattle.model.specs.Listing.{flagOf, flagNumber, entry, stay, ended, see, move}
 use Rattle.model.specs.Listing as listing
 use Rattle.model.specs.Layout.{fields, flagByte, recordFields, recordValue, registerFields, registerValue}
@@ -17,6 +17,7 @@ use Rattle.collect.specs.Collected.{collected, noting, withSeen, Kept, seeing}
 use Rattle.archipelago.specs.Advanced.{Advanced, Written, Ready, Reads, Moves, MovesReading, Finishes, staying}
 use Rattle.archipelago.specs.Advanced.{passing, writing}
 use Rattle.collect.proofs.OneRead.{collected-with, kept-with}
+use Rattle.archipelago.proofs.Ends.{over-seen}
 
 -- ---- reads
 
@@ -38,7 +39,7 @@ module _ (t : Turn) (n : ℕ) (f : Record) (reads : Reads t n f) where
       rw (sym d ∙ h)
       (subst (Advanced _ _) (sym (p ∙ ap passing q
       ∙ ap (λ (z : Record). staying
-      (fields (z .phase) (f .position + 1) (f .island) a (z .flag) (f .proposal) (f .carried)) Read) (sym e)))
+      (fields (z .phase) (f .position + 1) (f .island) a (z .flag) (f .proposal) (f .carried) f) Read) (sym e)))
       (record { station = refl; written = refl; answer = refl }))
 
 -- the record that a collect ends with is kept too
@@ -66,16 +67,17 @@ pub finished : (t : Turn) (n K : ℕ) (f : Record) (g : Fields.Register) (next :
 unfolding MovesReading Finishes move seeing withSeen noting changed
 finished t n K f g next r b d h q a =
     rw (sym d ∙ h)
-    (subst (λ (b : Seen Figure). Advanced (f .proposal) (ended K t (f .island) (f .carried) b) r) (collected-with f _)
-    (subst (λ (f : Record). Advanced (f .proposal) (ended K t (f .island) (f .carried) (collected f)) r) q a))
+    (subst (λ (b : Seen Figure). Advanced f (ended K t (f .island) (f .carried) b) r) (collected-with f _)
+    (over-seen f _ _ r
+    (subst (λ (f : Record). Advanced f (ended K t (f .island) (f .carried) (collected f)) r) q a)))
 
 -- ---- writes
 
 pub wrote : (t : Turn) (n K : ℕ) (f : Record) (g : Fields.Register) (mark island : ℕ) (r : Moved)
-    → recordFields (active (f .proposal) (listing.writing t (f .island) (f .carried))) ≡ f
+    → recordFields (active (f .proposal) (listing.writing t (f .island) (f .carried))) f ≡ f
     → registerFields (entry t (f .island) (f .carried)) ≡ (record { mark = mark; island = island; figure = f .carried })
     → r ≡ writing f mark island
-    → Advanced (f .proposal) (move figures n K (listing.writing t (f .island) (f .carried)) (registerValue g)) r
+    → Advanced f (move figures n K (listing.writing t (f .island) (f .carried)) (registerValue g)) r
 unfolding move Written told writing changed recordFields fields
 wrote t n K f g mark island r e w q =
     subst (Advanced _ _) (sym q)
@@ -90,13 +92,10 @@ wrote t n K f g mark island r e w q =
 -- the stage that a record stands for is the only one
 pub moved-as : (n K : ℕ) (f : Record) (g : Fields.Register) (r : Moved) (s : Stage Figure)
     → recordValue f ≡ active (f .proposal) s
-    → Advanced (f .proposal) (move figures n K s (registerValue g)) r → Moves n K f g r
+    → Advanced f (move figures n K s (registerValue g)) r → Moves n K f g r
 unfolding Moves
 moved-as n K f g r s e a v z d =
-    let stage : s ≡ z = cc in
-    let proposal : f .proposal ≡ v = cc in
-    subst (λ (v : Figure). Advanced v (move figures n K z (registerValue g)) r) proposal
-    (subst (λ (z : Stage Figure). Advanced (f .proposal) (move figures n K z (registerValue g)) r) stage a)
+    let stage : s ≡ z = cc in subst (λ (z : Stage Figure). Advanced f (move figures n K z (registerValue g)) r) stage a
 
 module _ (f : Record) where
   at-phase : (p : ℕ) → f .phase ≡ p → recordValue f ≡ ofPhase p f
@@ -136,12 +135,15 @@ module _ (f : Record) where
 module _ (n K : ℕ) (f : Record) (ready : Ready n K f) where
   pub ready-reads : (t : Turn) → Collects f t → Reads t n f
   unfolding Collects
-  ready-reads t e = record { whole = ap recordFields (sym e) ∙ ready .whole; position = ready .position }
+  ready-reads t e = record {
+    whole = ap (λ (s : Station Figure). recordFields s f) (sym e) ∙ ready .whole;
+    position = ready .position;
+  }
 
   ready-writes : (t : Turn) → Writes f t
-      → recordFields (active (f .proposal) (listing.writing t (f .island) (f .carried))) ≡ f
+      → recordFields (active (f .proposal) (listing.writing t (f .island) (f .carried))) f ≡ f
   unfolding Writes
-  ready-writes t e = ap recordFields (sym e) ∙ ready .whole
+  ready-writes t e = ap (λ (s : Station Figure). recordFields s f) (sym e) ∙ ready .whole
 
   module _ (g : Fields.Register) (r : Moved) where
     pub read-moves : (t : Turn) → Collects f t → MovesReading t n K f g r → Moves n K f g r
@@ -160,7 +162,7 @@ module _ (n K : ℕ) (f : Record) (ready : Ready n K f) where
         moved-as n K f g r _ (phase-3 f e) (wrote turnA n K f g 1 0 r (ready-writes turnA (phase-3 f e)) refl q)
 
     pub wrote-b : f .phase ≡ 5 → r ≡ writing f (f .flag) 0 → Moves n K f g r
-    unfolding Writes registerFields entry recordFields fields flagByte
+    unfolding Writes registerFields entry recordFields fields changed flagByte
     wrote-b e q =
         let whole = ready-writes (turnB (flagOf (f .flag))) (phase-5 f e) in
         moved-as n K f g r _ (phase-5 f e)

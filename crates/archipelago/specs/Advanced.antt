@@ -20,7 +20,7 @@ use Rattle.collect.specs.Collected.{collected}
 -- A record as `advance` takes it: of a station that is going, whose fields hold what its phase has a use for and
 -- nothing else. Every record of a sound board whose phase is 1 to 6 is ready (proofs/Laws/Ready.antt of stepping).
 pub record Ready (n K : ℕ) (f : Record) : Type 0 where
-  pub whole : recordFields (recordValue f) ≡ f
+  pub whole : recordFields (recordValue f) f ≡ f
   pub begun : 1 ≤ f .phase
   pub going : f .phase ≤ 6
   pub position : f .position < n
@@ -28,7 +28,7 @@ pub record Ready (n K : ℕ) (f : Record) : Type 0 where
 
 -- the same for the collect of one turn
 pub record Reads (t : Turn) (n : ℕ) (f : Record) : Type 0 where
-  pub whole : recordFields (active (f .proposal) (reading t (f .island) (f .carried) (f .position) (collected f))) ≡ f
+  pub whole : recordFields (active (f .proposal) (reading t (f .island) (f .carried) (f .position) (collected f))) f ≡ f
   pub position : f .position < n
 
 -- what is written: nothing, or the fields of the register
@@ -36,9 +36,9 @@ unfoldable pub Written : Option (Register Figure) → Moved → Type 0
 Written none r = r .writes ≡ false
 Written (some w) r = (r .writes ≡ true) × (r .register ≡ registerFields w)
 
--- The result r is the move m of a station with proposal v.
-pub record Advanced (v : Figure) (m : Move Figure) (r : Moved) : Type 0 where
-  pub station : r .station ≡ recordFields (active v (m .stage))
+-- The result r is the move m of the station with the record f.
+pub record Advanced (f : Record) (m : Move Figure) (r : Moved) : Type 0 where
+  pub station : r .station ≡ recordFields (active (f .proposal) (m .stage)) f
   pub written : Written (m .written) r
   pub answer : told (r .answer) ≡ m .answer
 
@@ -46,17 +46,17 @@ pub record Advanced (v : Figure) (m : Move Figure) (r : Moved) : Type 0 where
 -- stands for.
 unfoldable pub Moves : (n K : ℕ) (f : Record) (g : Fields.Register) (r : Moved) → Type 0
 Moves n K f g r =
-    (v : Figure) (s : Stage Figure) → recordValue f ≡ active v s → Advanced v (move figures n K s (registerValue g)) r
+    (v : Figure) (s : Stage Figure) → recordValue f ≡ active v s → Advanced f (move figures n K s (registerValue g)) r
 
 -- The same for a record in the collect of turn t.
 unfoldable pub MovesReading : (t : Turn) (n K : ℕ) (f : Record) (g : Fields.Register) (r : Moved) → Type 0
 MovesReading t n K f g r =
-    Advanced (f .proposal)
+    Advanced f
     (move figures n K (reading t (f .island) (f .carried) (f .position) (collected f)) (registerValue g)) r
 
 -- And for a record that has read its last register: the end of the collect of turn t.
 unfoldable pub Finishes : (t : Turn) (K : ℕ) (f : Record) (r : Moved) → Type 0
-Finishes t K f r = Advanced (f .proposal) (ended K t (f .island) (f .carried) (collected f)) r
+Finishes t K f r = Advanced f (ended K t (f .island) (f .carried) (collected f)) r
 
 -- the listing's move where a collect of B saw commits of one figure only
 unfoldable pub decision : (c : ℕ) (x : Figure) → Move Figure

@@ -37,7 +37,7 @@ pub fn stay(station: Record, answer: StepAnswer) -> Moved
 
 // A phase begins: at position 0, with nothing seen.
 fn start(station: Record, phase: u8, island: u8, flag: u8, carried: i32) -> Record
-    ensures { λ r. ⌜ r ≡ fields phase 0 island nothing flag (station .proposal) carried ⌝ }
+    ensures { λ r. ⌜ r ≡ fields phase 0 island nothing flag (station .proposal) carried station ⌝ }
 {
     let mut next = station;
     next.phase = phase;
@@ -126,7 +126,7 @@ pub fn finish_b(k: u8, station: Record) -> Moved
 }
 
 fn decided(station: Record, figure: i32) -> Moved
-    ensures { λ r. ⌜ Advanced (station .proposal) (decision (station .island) figure) r ⌝ }
+    ensures { λ r. ⌜ Advanced station (decision (station .island) figure) r ⌝ }
 {
     let island = station.island;
     let next = start(station, DECIDED, island, 0, figure);
@@ -136,7 +136,7 @@ fn decided(station: Record, figure: i32) -> Moved
 // An adopt: on to the next island, or spent at the last one.
 fn onward(k: u8, station: Record, figure: i32) -> Moved
     requires { ⌜ station .island < k ⌝ }
-    ensures { λ r. ⌜ Advanced (station .proposal) (listing.onward k (station .island) figure) r ⌝ }
+    ensures { λ r. ⌜ Advanced station (listing.onward k (station .island) figure) r ⌝ }
 {
     let island = station.island + 1;
     if island < k {

@@ -19,20 +19,20 @@ use soundness::place::Place;
 use soundness::place::station_place;
 
 // "phase 1, c = 0, proposal and carried = the figure"
-fn beginning(figure: i32) -> Record
-    ensures { λ r. ⌜ r ≡ recordFields (proposed figure) ⌝ }
+fn beginning(station: Record, figure: i32) -> Record
+    ensures { λ r. ⌜ r ≡ recordFields (proposed figure) station ⌝ }
 {
-    Record {
-        phase: WRITE_M,
-        position: 0,
-        island: 0,
-        seen: 0,
-        highest: 0,
-        flag: 0,
-        proposal: figure,
-        carried: figure,
-        best: 0,
-    }
+    let mut next = station;
+    next.phase = WRITE_M;
+    next.position = 0;
+    next.island = 0;
+    next.seen = 0;
+    next.highest = 0;
+    next.flag = 0;
+    next.proposal = figure;
+    next.carried = figure;
+    next.best = 0;
+    next
 }
 
 // A proposal on a board that is known to be sound.
@@ -47,7 +47,7 @@ fn propose_on(board: &mut [u8], station: u8, figure: i32) -> Verdict
     if own.phase != IDLE {
         return Verdict::Refused { number: 13 };
     }
-    put_record(board, at, beginning(figure));
+    put_record(board, at, beginning(own, figure));
     Verdict::Accepted
 }
 

@@ -14,7 +14,7 @@ use Rattle.model.specs.Listing.{flagOf, flagNumber}
 use Rattle.model.specs.Layout.{boardLength, rowOf, registerAt, recordAt, freshBoard, readRegister, layRegister}
 use Rattle.model.specs.Layout.{registerFields, registerValue, seenNumber}
 use Rattle.model.specs.Layout.{bestIsland, bestFigure, seenOf, writePhase, flagByte, readRecord, layRecord}
-use Rattle.model.specs.Layout.{fields, recordFields, recordValue, writingOf, readingOf}
+use Rattle.model.specs.Layout.{fields, recordFields, changed, recordValue, writingOf, readingOf}
 use Rattle.model.specs.Layout.{ofPhase, registerOf, recordOf, stationOf}
 use Rattle.model.specs.Sound.{headSound, registerSound, arraySound, registersSound, collecting, phaseKnown}
 use Rattle.model.specs.Sound.{positionInside, islandInside}
@@ -23,7 +23,7 @@ use Rattle.model.specs.Sound.{seenKnown, sameRegister}
 use Rattle.model.specs.Sound.{ownWritten, ownSeen, ownPassed, fieldsSound, recordSound, sound}
 use Rattle.model.specs.Calls.{unless, ranges, shapeRefusal, stations, islands, boardRefusal, stationRefusal}
 use Rattle.model.specs.Calls.{stationAt}
-use Rattle.model.specs.Calls.{unlessRefused, lay, putStation}
+use Rattle.model.specs.Calls.{unlessRefused, lay, putRecord}
 use Rattle.model.specs.Calls.{putRegister, notIdle, propose, notGoing, access, stepped, stepOn, step, ranFrom}
 use Rattle.model.specs.Calls.{run}
 use Rattle.model.specs.Runs.{after}
@@ -63,16 +63,14 @@ taken (notRun k) = 0
 
 pub shut-out : ShutOut
 unfolding ShutOut AllDiffer rows at same different taken movedBy by listing ending refusesAll leavesIdle zeroAt seeAll
-    wholeAtFirst
-    spentAt wholeInOne oldAt ownIslandAt counted emptiesCounted ownLargestAt presentAt proposeAll boardAfter after
-    number digits part splice zeros every implies figure figureBytes sameFigure above figures array placeArray
-    placeColumn accepted outcome entry proposed stay onward finish ended larger pairAbove add see move flagOf flagNumber
-    boardLength rowOf registerAt recordAt freshBoard readRegister layRegister registerFields registerValue seenNumber
-    bestIsland bestFigure seenOf writePhase flagByte readRecord layRecord fields recordFields recordValue writingOf
-    readingOf ofPhase registerOf recordOf stationOf headSound registerSound arraySound registersSound collecting
-    phaseKnown positionInside islandInside bestInside flagKnown restZero idleZero collectZero bestIslandZero bestZero
-    seenKnown sameRegister ownWritten ownSeen ownPassed fieldsSound recordSound sound unless ranges shapeRefusal
-    stations
-    islands boardRefusal stationRefusal stationAt unlessRefused lay putStation putRegister notIdle propose notGoing
-    access stepped stepOn step ranFrom run
+    wholeAtFirst spentAt wholeInOne oldAt ownIslandAt counted emptiesCounted ownLargestAt presentAt proposeAll
+    boardAfter after number digits part splice zeros every implies figure figureBytes sameFigure above figures array
+    placeArray placeColumn accepted outcome entry proposed stay onward finish ended larger pairAbove add see move
+    flagOf flagNumber boardLength rowOf registerAt recordAt freshBoard readRegister layRegister registerFields
+    registerValue seenNumber bestIsland bestFigure seenOf writePhase flagByte readRecord layRecord fields recordFields
+    changed recordValue writingOf readingOf ofPhase registerOf recordOf stationOf headSound registerSound arraySound
+    registersSound collecting phaseKnown positionInside islandInside bestInside flagKnown restZero idleZero
+    collectZero bestIslandZero bestZero seenKnown sameRegister ownWritten ownSeen ownPassed fieldsSound recordSound
+    sound unless ranges shapeRefusal stations islands boardRefusal stationRefusal stationAt unlessRefused lay
+    putRecord putRegister notIdle propose notGoing access stepped stepOn step ranFrom run
 shut-out = (all-differ (8 ∷ 8 ∷ 60 ∷ 104 ∷ 88 ∷ 112 ∷ 112 ∷ 164 ∷ 178 ∷ 93 ∷ 93 ∷ []) rows tt, unlike taken _ _ refl)

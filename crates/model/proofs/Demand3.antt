@@ -6,14 +6,15 @@ use Rattle.model.proofs.Kit.{_-_, _≤_, _<_, _*_, ltb-true, ltb, lit<,
 use native.Mathlib.Nat.{le-refl}
 use Rattle.model.specs.Figure.{Figure}
 use Rattle.model.specs.Listing.{empty, Stage, has-decided, Station, idle, active, inM}
-use Rattle.model.specs.Layout.{freshBoard, readRegister, registerValue, registerOf, stationOf}
+use Rattle.model.specs.Layout.{freshBoard, readRegister, registerValue, registerOf, stationOf, readRecord}
+use Rattle.model.specs.Layout.{recordValue, ofPhase}
 use Rattle.model.specs.Calls.{stations, islands}
 use Rattle.model.specs.AnyList.{Call, AllAllowed, Some, Proposes, Steps, Decides, Seat, Among, Once, AsProposed}
 use Rattle.model.specs.AnyList.{EachDecides, Ordered, Demand3, AnyList, after}
 use Rattle.model.proofs.Basics.Tests.{cond-case}
-use Rattle.model.proofs.Board.Codec.{register, station, Fits, FitsStation, station-bytes}
+use Rattle.model.proofs.Board.Codec.{register, station, Fits, FitsStation}
 use Rattle.model.proofs.Board.Boards.{registerPart}
-use Rattle.model.proofs.Board.Fresh.{fresh-idle, fresh-empty}
+use Rattle.model.proofs.Board.Fresh.{fresh-zero, fresh-empty}
 use Rattle.model.proofs.Listing.Collect.{Filled}
 use Rattle.model.proofs.Calls.Refusals.{Shape, laid-fresh}
 use Rattle.model.proofs.Calls.CallsKeep.{fresh-board, station-of-fits}
@@ -32,8 +33,8 @@ use Rattle.model.proofs.Bridge.Seats.{proposalIn, seat, seats, among-is
 
 module _ (n K : ℕ) where
   fresh-station : (j : ℕ) → j < n → stationOf n K j (freshBoard n K) ≡ idle
-  unfolding stationOf FitsStation
-  fresh-station j h = ap station (fresh-idle n K j h) ∙ station-bytes idle tt
+  unfolding stationOf readRecord recordValue ofPhase
+  fresh-station j h = ap station (fresh-zero n K j h)
 
   fresh-view : view n K (freshBoard n K) ≡ initial
   unfolding view initial registerOf registerPart readRegister registerValue

@@ -10,7 +10,7 @@ use Rattle.model.specs.Listing.{flagOf, flagNumber}
 use Rattle.model.specs.Layout.{boardLength, rowOf, registerAt, recordAt, freshBoard, readRegister, layRegister}
 use Rattle.model.specs.Layout.{registerFields, registerValue, seenNumber}
 use Rattle.model.specs.Layout.{bestIsland, bestFigure, seenOf, writePhase, flagByte, readRecord, layRecord}
-use Rattle.model.specs.Layout.{fields, recordFields, recordValue, writingOf, readingOf}
+use Rattle.model.specs.Layout.{fields, recordFields, changed, recordValue, writingOf, readingOf}
 use Rattle.model.specs.Layout.{ofPhase, registerOf, recordOf, stationOf}
 use Rattle.model.specs.Sound.{headSound, registerSound, arraySound, registersSound, collecting, phaseKnown}
 use Rattle.model.specs.Sound.{positionInside, islandInside}
@@ -18,7 +18,7 @@ use Rattle.model.specs.Sound.{bestInside, flagKnown, restZero, idleZero,
 use Rattle.model.specs.Sound.{seenKnown, sameRegister}
 use Rattle.model.specs.Sound.{ownWritten, ownSeen, ownPassed, fieldsSound, recordSound, sound}
 use Rattle.model.specs.Calls.{unless, ranges, shapeRefusal, stations, islands, boardRefusal, stationRefusal}
-use Rattle.model.specs.Calls.{stationAt, unlessRefused, lay, putStation}
+use Rattle.model.specs.Calls.{stationAt, unlessRefused, lay, putRecord}
 use Rattle.model.specs.Calls.{putRegister, notIdle, propose, notGoing, access, stepped, stepOn, step, ranFrom}
 use Rattle.model.specs.Calls.{run}
 use Rattle.model.specs.Standing.{standingOf}
@@ -37,15 +37,15 @@ pub starred : Starred
 unfolding Starred Holds rows sheet asLines layIn number digits part splice zeros every implies figure figureBytes
     sameFigure above figures array placeArray placeColumn accepted entry proposed stay onward finish ended larger
     pairAbove add see move flagOf flagNumber boardLength rowOf registerAt recordAt freshBoard readRegister layRegister
-    registerFields registerValue seenNumber bestIsland bestFigure seenOf writePhase flagByte readRecord layRecord fields
-    recordFields recordValue writingOf readingOf ofPhase registerOf recordOf stationOf headSound registerSound
-    arraySound registersSound collecting phaseKnown positionInside islandInside bestInside flagKnown restZero idleZero
-    collectZero bestIslandZero bestZero seenKnown sameRegister ownWritten ownSeen ownPassed fieldsSound recordSound
-    sound unless shapeRefusal stations islands boardRefusal stationRefusal stationAt unlessRefused lay putStation
-    putRegister notIdle propose notGoing access stepped stepOn step ranFrom run textFrom text decimalIn decimal signed
-    worded standingText standingOf status statuses shownLine shownAs show repeated expandItem expand found andThen
-    spaced digit digitsFrom natural numberIn figureIn behind timesIn itemIn itemsIn same closing wordRows boardRow
-    proposeRow stepsRow showRow rowIn upToStop firstWord wordPlace formIn one tooDeep orFour readLine refusedText
-    orRefused laidText proposedText ranText shownText turnedDown playBoard onBoard playForm playReading playLine onFirst
-    linesOf printed playSheet outcome ranges
+    registerFields registerValue seenNumber bestIsland bestFigure seenOf writePhase flagByte readRecord layRecord
+    fields recordFields changed recordValue writingOf readingOf ofPhase registerOf recordOf stationOf headSound
+    registerSound arraySound registersSound collecting phaseKnown positionInside islandInside bestInside flagKnown
+    restZero idleZero collectZero bestIslandZero bestZero seenKnown sameRegister ownWritten ownSeen ownPassed
+    fieldsSound recordSound sound unless shapeRefusal stations islands boardRefusal stationRefusal stationAt
+    unlessRefused lay putRecord putRegister notIdle propose notGoing access stepped stepOn step ranFrom run textFrom
+    text decimalIn decimal signed worded standingText standingOf status statuses shownLine shownAs show repeated
+    expandItem expand found andThen spaced digit digitsFrom natural numberIn figureIn behind timesIn itemIn itemsIn
+    same closing wordRows boardRow proposeRow stepsRow showRow rowIn upToStop firstWord wordPlace formIn one tooDeep
+    orFour readLine refusedText orRefused laidText proposedText ranText shownText turnedDown playBoard onBoard
+    playForm playReading playLine onFirst linesOf printed playSheet outcome ranges
 starred = (refl, (refl, (refl, (refl, (refl, (refl, (refl, (refl, (refl, (refl, (refl, tt)))))))))))

@@ -3,12 +3,13 @@
 -- Relies on all definitions but the shown line; every public contract is an equation with one of these.
 use Rattle.model.specs.Kit.{Bool, true, false, _&&_, cond, List, [], _∷_, Option, none, some, ℕ, _+_, _-_, eqb}
 use Rattle.model.specs.Kit.{leb, length}
+use Rattle.model.specs.declared.Record.{Record}
 use Rattle.model.specs.Bytes.{byte, splice}
 use Rattle.model.specs.Figure.{Figure, figures}
 use Rattle.model.specs.Listing.{Register, Stage, writing, reading, has-decided, is-spent, Station, idle, active}
-use Rattle.model.specs.Listing.{Answer, refused, accepted, Array, placeArray, placeColumn, proposed, move}
+use Rattle.model.specs.Listing.{Answer, refused, accepted, Array, placeArray, placeColumn, proposed, Move, move}
 use Rattle.model.specs.Layout.{boardLength, registerAt, recordAt, freshBoard, layRegister, registerFields}
-use Rattle.model.specs.Layout.{layRecord, recordFields, registerOf, stationOf}
+use Rattle.model.specs.Layout.{layRecord, recordFields, registerOf, fieldsOf, stationOf}
 use Rattle.model.specs.Sound.{sound}
 
 -- What a call answers, and the bytes of the lent board as it returns.
@@ -72,8 +73,8 @@ unfoldable pub lay : (n K : ℕ) → List ℕ → After Refusal
 lay n K b = unlessRefused (shapeRefusal ranges n K b none) some b (record { answer = none; bytes = freshBoard n K })
 
 -- The two ways in which an accepted call changes bytes: the record of station index j, and the one register written.
-unfoldable pub putStation : (n K j : ℕ) → Station Figure → List ℕ → List ℕ
-putStation n K j s b = splice (recordAt n K j) (layRecord (recordFields s)) b
+unfoldable pub putRecord : (n K j : ℕ) → Record → List ℕ → List ℕ
+putRecord n K j f b = splice (recordAt n K j) (layRecord f) b
 
 unfoldable pub putRegister : (n : ℕ) → Array → (j : ℕ) → Option (Register Figure) → List ℕ → List ℕ
 putRegister n a j none b = b
@@ -84,11 +85,15 @@ unfoldable pub notIdle : Station Figure → Refusal
 notIdle idle = none
 notIdle (active v s) = some 13
 
+-- a proposal of the station with index j
+abbrev pub putProposal : (n K j : ℕ) → Figure → List ℕ → List ℕ
+putProposal n K j v b = putRecord n K j (recordFields (proposed v) (fieldsOf n K j b)) b
+
 -- "A proposal sets an idle station to phase 1", after the board's refusals, 12 and 13.
 unfoldable pub propose : (i : ℕ) → Figure → List ℕ → After Refusal
 propose i v b =
     unlessRefused (boardRefusal b (stationRefusal i b (notIdle (stationAt i b)))) some b
-    (record { answer = none; bytes = putStation (stations b) (islands b) (i - 1) (proposed v) b })
+    (record { answer = none; bytes = putProposal (stations b) (islands b) (i - 1) v b })
 
 -- "14. The station to step is idle. 15. The station to step has decided. 16. The station to step is spent."
 unfoldable pub notGoing : Station Figure → Refusal
@@ -98,13 +103,16 @@ notGoing (active v (reading t c x p a)) = none
 notGoing (active v (has-decided c x)) = some 15
 notGoing (active v (is-spent c x)) = some 16
 
+-- what a move m of the station with index j, proposal v and stage s answers and leaves
+abbrev pub putMove : (n K j : ℕ) → Figure → Stage Figure → Move Figure → List ℕ → After (Answer Figure)
+putMove n K j v s m b =
+    let station = recordFields (active v (m .stage)) (fieldsOf n K j b) in
+    record { answer = m .answer; bytes = putRecord n K j station (putRegister n (placeArray s) j (m .written) b) }
+
 -- "Each step moves one station on by a single register and touches no other station's record." An accepted step of the
 -- station with index j, proposal v and stage s: the listing's move over the one register at the stage's place.
 unfoldable pub access : (n K j : ℕ) → Figure → Stage Figure → List ℕ → After (Answer Figure)
-access n K j v s b =
-    let m = move figures n K s (registerOf n (placeArray s) (placeColumn j s) b) in
-    let registers = putRegister n (placeArray s) j (m .written) b in
-    record { answer = m .answer; bytes = putStation n K j (active v (m .stage)) registers }
+access n K j v s b = putMove n K j v s (move figures n K s (registerOf n (placeArray s) (placeColumn j s) b)) b
 
 -- the same by the station's record
 unfoldable pub stepped : (n K j : ℕ) → Station Figure → List ℕ → After (Answer Figure)

@@ -1,7 +1,7 @@
 -- The wrong cards of 01's checklist and its forbidden shortcuts, each as a step on bytes, in one table: on a named
 -- board each answers or leaves something else than `step` does, so none of them can meet the equation of a step.
 -- Relies on the calls and the sheet; proofs/Cards.antt proves the one statement `ShutOut`.
-use Rattle.model.specs.Kit.{cond, List, [], _∷_, _++_, ℕ, zero, suc, _+_, _-_, ltb, replicate, pos, negsuc}
+use Rattle.model.specs.Kit.{cond, List, [], _∷_, _++_, ℕ, zero, suc, _+_, _-_, ltb, replicate, pos}
 use mathlib.Core.Path.{_≡_}
 use Rattle.model.specs.Figure.{Figure, figures}
 use Rattle.model.specs.Listing.{Register, empty, filled, Turn, turnM, turnA, turnB, first, second, third, Seen}
@@ -9,7 +9,7 @@ use Rattle.model.specs.Listing.{nothing, seen, Stage, writing, reading, 
 use Rattle.model.specs.Listing.{Station, idle, active, Answer, read, went, decided, spent, refused, Move}
 use Rattle.model.specs.Listing.{placeArray, placeColumn, stay, ended, finish, see, move}
 use Rattle.model.specs.Layout.{boardLength, registerOf}
-use Rattle.model.specs.Calls.{After, ran, stations, islands, stationAt, putRegister, putStation, lay, propose}
+use Rattle.model.specs.Calls.{After, ran, stations, islands, stationAt, putMove, lay, propose}
 use Rattle.model.specs.Calls.{step, run}
 use Rattle.model.specs.Runs.{after}
 
@@ -24,12 +24,7 @@ Card = (i : ℕ) → List ℕ → After (Answer Figure)
 
 unfoldable pub movedBy : CardMove → (n K j : ℕ) → Station Figure → List ℕ → After (Answer Figure)
 movedBy card n K j idle b = record { answer = refused 14; bytes = b }
-movedBy card n K j (active v s) b =
-    let m = card n K s j (λ q. registerOf n (placeArray s) q b) in
-    record {
-      answer = m .answer;
-      bytes = putStation n K j (active v (m .stage)) (putRegister n (placeArray s) j (m .written) b);
-    }
+movedBy card n K j (active v s) b = putMove n K j v s (card n K s j (λ q. registerOf n (placeArray s) q b)) b
 
 unfoldable pub by : CardMove → Card
 by card i b = movedBy card (stations b) (islands b) (i - 1) (stationAt i b) b
@@ -174,17 +169,17 @@ rows =
     -- station 2 has written a commit of 3 to B, and reads it beside an adopt of 7
     ∷ record { card = by (ending spentAt); station = 2; board = boardAfter 2 2 (pos 7 ∷ pos 3 ∷ []) besideAdopt }
     ∷ record { card = by (ending presentAt); station = 2; board = boardAfter 2 2 (pos 7 ∷ pos 3 ∷ []) besideAdopt }
-    -- station 1 has decided −40, and station 2 with 15 meets its commit in B
+    -- station 1 has decided 4, and station 2 with 15 meets its commit in B
     ∷ record {
       card = by (ending oldAt);
       station = 2;
-      board = boardAfter 3 2 (negsuc 39 ∷ pos 15 ∷ []) (replicate 12 1 ++ replicate 11 2);
+      board = boardAfter 3 2 (pos 4 ∷ pos 15 ∷ []) (replicate 12 1 ++ replicate 11 2);
     }
     -- and then has written m on island 1, where station 3 finds it
     ∷ record {
       card = by (ending ownIslandAt);
       station = 3;
-      board = boardAfter 3 2 (negsuc 39 ∷ pos 15 ∷ pos 5 ∷ []) (replicate 12 1 ++ replicate 13 2 ++ replicate 3 3);
+      board = boardAfter 3 2 (pos 4 ∷ pos 15 ∷ pos 5 ∷ []) (replicate 12 1 ++ replicate 13 2 ++ replicate 3 3);
     }
     -- station 1 alone reads a register of A that nobody has written
     ∷ record { card = by emptiesCounted; station = 1; board = boardAfter 2 2 (pos 7 ∷ pos 3 ∷ []) (replicate 5 1) }

@@ -94,11 +94,24 @@ readRecord r =
     asRecord (byte r 0) (byte r 1) (byte r 2) (byte r 3) (byte r 4) (byte r 5)
     (figure (part 8 4 r)) (figure (part 12 4 r)) (figure (part 16 4 r))
 
+-- the bytes without a field: where they begin and how many they are, "6–7 zero" and "20–23 zero"
+abbrev pub gapAt : ℕ
+gapAt = 6
+
+abbrev pub gap : ℕ
+gap = 2
+
+abbrev pub tailAt : ℕ
+tailAt = 20
+
+abbrev pub tail : ℕ
+tail = 4
+
 -- and the bytes of such fields
 unfoldable pub layRecord : Record → List ℕ
 layRecord f =
     (f .phase ∷ f .position ∷ f .island ∷ f .seen ∷ f .highest ∷ f .flag ∷ 0 ∷ 0 ∷ [])
-    ++ figureBytes (f .proposal) ++ figureBytes (f .carried) ++ figureBytes (f .best) ++ replicate 4 0
+    ++ figureBytes (f .proposal) ++ figureBytes (f .carried) ++ figureBytes (f .best) ++ replicate tail 0
 
 -- One field of a record with the value that it comes to have.
 pub data Change : Type 0 where
@@ -150,17 +163,22 @@ unfoldable pub putChanges : List Change → (at : ℕ) → List ℕ → List ℕ
 putChanges [] at b = b
 putChanges (c ∷ cs) at b = putChanges cs at (store (stored c) at b)
 
--- the fields of a station's record, with position p, island c, what was seen a, proposal v and carried figure x
-unfoldable pub fields : (phase p c : ℕ) → Seen Figure → (flag : ℕ) (v x : Figure) → Record
-fields phase p c a flag v x = asRecord phase p c (seenNumber a) (bestIsland a) flag v x (bestFigure a)
+-- The record f once its station stands so: phase, position p, island c, what was seen a, flag, proposal v and carried
+-- figure x. A field that tells nothing of how it stands is as it was.
+unfoldable pub fields : (phase p c : ℕ) → Seen Figure → (flag : ℕ) (v x : Figure) → Record → Record
+fields phase p c a flag v x f =
+    changed
+    (phaseIs phase ∷ positionIs p ∷ islandIs c ∷ seenIs (seenNumber a) ∷ highestIs (bestIsland a) ∷ flagIs flag
+    ∷ proposalIs v ∷ carriedIs x ∷ bestIs (bestFigure a) ∷ [])
+    f
 
 -- "Idle is all zero."
-unfoldable pub recordFields : Station Figure → Record
-recordFields idle = fields 0 0 0 nothing 0 (pos 0) (pos 0)
-recordFields (active v (writing t c x)) = fields (writePhase t) 0 c nothing (flagByte t) v x
-recordFields (active v (reading t c x p a)) = fields (writePhase t + 1) p c a (flagByte t) v x
-recordFields (active v (has-decided c x)) = fields 7 0 c nothing 0 v x
-recordFields (active v (is-spent c x)) = fields 8 0 c nothing 0 v x
+unfoldable pub recordFields : Station Figure → Record → Record
+recordFields idle f = fields 0 0 0 nothing 0 (pos 0) (pos 0) f
+recordFields (active v (writing t c x)) f = fields (writePhase t) 0 c nothing (flagByte t) v x f
+recordFields (active v (reading t c x p a)) f = fields (writePhase t + 1) p c a (flagByte t) v x f
+recordFields (active v (has-decided c x)) f = fields 7 0 c nothing 0 v x f
+recordFields (active v (is-spent c x)) f = fields 8 0 c nothing 0 v x f
 
 -- and back, by the phase
 unfoldable pub writingOf : Turn → Record → Station Figure
@@ -191,5 +209,8 @@ registerOf n a j b = registerValue (readRegister (part (registerAt n a j) 8 b))
 unfoldable pub recordOf : (n K j : ℕ) → List ℕ → List ℕ
 recordOf n K j b = part (recordAt n K j) 24 b
 
+abbrev pub fieldsOf : (n K j : ℕ) → List ℕ → Record
+fieldsOf n K j b = readRecord (recordOf n K j b)
+
 unfoldable pub stationOf : (n K j : ℕ) → List ℕ → Station Figure
-stationOf n K j b = recordValue (readRecord (recordOf n K j b))
+stationOf n K j b = recordValue (fieldsOf n K j b)

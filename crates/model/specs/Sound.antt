@@ -6,7 +6,8 @@ use Rattle.model.specs.Figure.{Figure, figures, sameFigure}
 use Rattle.model.specs.Listing.{Turn, turnM, turnA, turnB, Seen, nothing, seen, Register, empty, filled, writing}
 use Rattle.model.specs.Listing.{reading, has-decided, is-spent, Station, idle, active, Array, inM, inA, inB}
 use Rattle.model.specs.Listing.{array, entry, pairAbove, flagNumber}
-use Rattle.model.specs.Layout.{registerAt, registerOf, recordOf, readRecord, recordValue}
+use Rattle.model.specs.Layout.{registerAt, registerOf, recordOf, readRecord, recordValue, gapAt, gap}
+use Rattle.model.specs.Layout.{tailAt, tail}
 
 -- "Head, 8 bytes: n, K, six zeros."
 unfoldable pub headSound : List ℕ → Bool
@@ -53,7 +54,7 @@ module _ (phase : ℕ) (r : List ℕ) where
 
   -- "6–7 zero", "20–23 zero"
   unfoldable pub restZero : Bool
-  restZero = zeros (part 6 2 r) && zeros (part 20 4 r)
+  restZero = zeros (part gapAt gap r) && zeros (part tailAt tail r)
 
   -- "Idle is all zero."
   unfoldable pub idleZero : Bool

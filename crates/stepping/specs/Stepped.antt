@@ -7,9 +7,10 @@ use Prim.Native.Nat.{ℕ, _≤_, _<_}
 use lib.ListN.{length}
 use Rattle.model.specs.declared.Record.{Record}
 use Rattle.model.specs.declared.StepAnswer.{StepAnswer}
+use Rattle.model.specs.Bytes.{part}
 use Rattle.model.specs.Figure.{Figure}
 use Rattle.model.specs.Listing.{Stage, active, placeArray, placeColumn, accepted}
-use Rattle.model.specs.Layout.{boardLength, registerAt, recordValue}
+use Rattle.model.specs.Layout.{boardLength, registerAt, recordAt, readRecord, layRecord, recordValue}
 use Rattle.model.specs.Calls.{access, stepOn}
 use Rattle.model.specs.Told.{told}
 use Rattle.model.specs.Runs.{taken, answers, after}
@@ -31,6 +32,12 @@ pub record OnSize (n K j : ℕ) (b : List ℕ) : Type 0 where
   pub islands : K ≤ 64
   pub own : j < n
   pub len : length b ≡ boardLength n K
+
+-- the record f of station index j stands at the offset `at` of the board b
+pub record Stands (n K j at : ℕ) (f : Record) (b : List ℕ) : Type 0 where
+  pub place : at ≡ recordAt n K j
+  pub read : f ≡ readRecord (part at 24 b)
+  pub laid : part at 24 b ≡ layRecord f
 
 -- a step's answer r and bytes d, as the model's step on a sound board gives them
 unfoldable pub StepsOn : (i : ℕ) (b : List ℕ) (r : StepAnswer) (d : List ℕ) → Type 0

@@ -1,11 +1,8 @@
 // One step of one station: the register it touches, the listing's move, and what is put back.
 // Relies on the codec and on the stepper of a lent record; the public step and the run rely on it.
-ghost use mathlib.Core.Path.{_≡_};
 ghost use Prim.Native.Nat.{_≤_, _<_};
-ghost use Rattle.model.specs.Bytes.{part};
-ghost use Rattle.model.specs.Layout.{recordAt, layRecord};
 ghost use Rattle.archipelago.specs.Advanced.{Ready};
-ghost use Rattle.stepping.specs.Stepped.{Touches, Accesses, OnSize};
+ghost use Rattle.stepping.specs.Stepped.{Touches, Accesses, OnSize, Stands};
 use codec::places::register_offset;
 use codec::records::put_collected;
 use codec::records::put_phase;
@@ -52,7 +49,7 @@ fn touched(n: u8, k: u8, j: usize, station: Record) -> usize
 // after a write the phase, in the middle of a collect what it has seen, and at its end, where the station is at position 0
 // again, all but the proposal. The other bytes of the record stand already.
 pub fn access(board: &mut [u8], n: u8, k: u8, j: usize, at: usize, station: Record) -> StepAnswer
-    requires { ⌜ Ready n k station × OnSize n k j (now board) × (at ≡ recordAt n k j) × (part at 24 (now board) ≡ layRecord station) ⌝ }
+    requires { ⌜ Ready n k station × OnSize n k j (now board) × Stands n k j at station (now board) ⌝ }
     ensures { λ r. ⌜ Accesses n k j station (now (board .entry)) r (now (board .exit)) ⌝ }
 {
     let place = touched(n, k, j, station);

@@ -9,9 +9,9 @@ use Rattle.model.specs.Bytes.{part, splice}
 use Rattle.model.specs.Figure.{Figure}
 use Rattle.model.specs.Listing.{proposed}
 use Rattle.model.specs.Layout.{recordAt, readRecord, layRecord, recordFields, writingOf, readingOf, ofPhase}
-use Rattle.model.specs.Layout.{recordValue}
+use Rattle.model.specs.Layout.{recordValue, recordOf}
 use Rattle.model.specs.Calls.{After, Refusal, stations, islands, boardRefusal, stationRefusal, stationAt, unlessRefused}
-use Rattle.model.specs.Calls.{putStation, notIdle, propose}
+use Rattle.model.specs.Calls.{putRecord, putProposal, notIdle, propose}
 use Rattle.model.specs.Told.{verdict}
 use Rattle.model.proofs.Calls.Refusals.{board-of, board-passes, board-first, OnBoard, station-passes}
 use Rattle.soundness.specs.declared.place.Place.{Place}
@@ -26,7 +26,7 @@ pub past-board : (b : List ℕ) → boardRefusal b none ≡ none → (later : Re
 past-board b sound = board-passes b (board-of b none sound .0)
 
 abbrev done : (i : ℕ) (v : Figure) (b : List ℕ) → After Refusal
-done i v b = record { answer = none; bytes = putStation (stations b) (islands b) (i - 1) (proposed v) b }
+done i v b = record { answer = none; bytes = putProposal (stations b) (islands b) (i - 1) v b }
 
 module _ (i : ℕ) (v : Figure) (b : List ℕ) where
   refuses : (k : ℕ) → boardRefusal b (stationRefusal i b (notIdle (stationAt i b))) ≡ some k
@@ -76,13 +76,15 @@ module _ (i : ℕ) (v : Figure) (b : List ℕ) where
       thirteen h = refuses 13 (passes ∙ busy (f .phase) h)
 
       pub taken : f .phase ≡ 0 → SFits w32 v → (g : Record) (d : List ℕ)
-          → g ≡ recordFields (proposed (toZ w32 (ofZ w32 v)))
+          → g ≡ recordFields (proposed (toZ w32 (ofZ w32 v))) f
           → d ≡ splice at (layRecord g) b → Proposes i v b Accepted d
-      unfolding Proposes propose unlessRefused verdict recordValue ofPhase notIdle putStation stations islands
+      unfolding Proposes propose unlessRefused verdict recordValue ofPhase notIdle putRecord recordOf stations
+          islands
       taken z fits g d eg ed =
           let q = sym (passes ∙ ap (λ (k : ℕ). notIdle (ofPhase k f)) z) in
           let here = on .place ∙ ap (recordAt (getD b 0 0) (getD b 1 0)) (on .index) in
-          let own = eg ∙ ap (λ (x : Figure). recordFields (proposed x)) (toZ-ofZ fits) in (
+          let own = eg ∙ (λ k. recordFields (proposed (toZ-ofZ fits k))
+          ((e ∙ ap (λ (x : ℕ). readRecord (part x 24 b)) here) k)) in (
             ap (λ (r : Refusal). unlessRefused r some b (done i v b) .answer) q,
             ed ∙ (λ k. splice (here k) (layRecord (own k)) b)
                 ∙ ap (λ (r : Refusal). unlessRefused r some b (done i v b) .bytes) q,

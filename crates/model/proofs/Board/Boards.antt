@@ -1,15 +1,16 @@
 -- A board after a station's record or one register was put in: what each part of it then holds.
 -- Relies on Splices, Places and Codec; that the calls keep a board sound relies on it, and the bridge to values.
 use Rattle.model.proofs.Kit.{_≡_, sym, ap, _∙_, ⊎-elim, _⊎_, List, some, ℕ, _+_, _≤_, _<_, length, arith}
+use Rattle.model.specs.declared.Record.{Record}
 use Rattle.model.specs.Bytes.{byte, part, splice}
 use Rattle.model.specs.Figure.{Figure}
-use Rattle.model.specs.Listing.{Register, Station, Array}
-use Rattle.model.specs.Layout.{boardLength, registerAt, recordAt, recordOf}
-use Rattle.model.specs.Calls.{putStation, putRegister}
+use Rattle.model.specs.Listing.{Register, Array}
+use Rattle.model.specs.Layout.{boardLength, registerAt, recordAt, layRecord, recordOf}
+use Rattle.model.specs.Calls.{putRecord, putRegister}
 use Rattle.model.proofs.Basics.Splices.{length-splice, byte-before, part-same, part-before, part-after}
 use Rattle.model.proofs.Board.Places.{InBoard, head-first, register-inside, record-inside, register-fits}
 use Rattle.model.proofs.Board.Places.{head-before-records, records-apart, registers-apart}
-use Rattle.model.proofs.Board.Codec.{registerBytes, recordBytes, length-register, length-record}
+use Rattle.model.proofs.Board.Codec.{registerBytes, length-register, length-record}
 
 -- the register of array a and station index j, as bytes
 unfoldable pub registerPart : (n : ℕ) → Array → (j : ℕ) → List ℕ → List ℕ
@@ -23,41 +24,41 @@ part-apart at v b size e fits from len h s =
     ⊎-elim (λ (l : from + len ≤ at). part-before at v b (omega arith) from len l)
     (λ (l : at + size ≤ from). part-after at v b (omega arith) from len (omega arith) h) s
 
-module _ (n K : ℕ) (b : List ℕ) (len : length b ≡ boardLength n K) (i : ℕ) (own : i < n) (s : Station Figure) where
-  fits : recordAt n K i + length (recordBytes s) ≤ length b
-  fits = omega (arith, record-inside n K i own, length-record s)
+module _ (n K : ℕ) (b : List ℕ) (len : length b ≡ boardLength n K) (i : ℕ) (own : i < n) (f : Record) where
+  fits : recordAt n K i + length (layRecord f) ≤ length b
+  fits = omega (arith, record-inside n K i own, length-record f)
 
-  pub station-length : length (putStation n K i s b) ≡ boardLength n K
-  unfolding putStation
-  station-length = length-splice (recordAt n K i) (recordBytes s) b fits ∙ len
+  pub record-length : length (putRecord n K i f b) ≡ boardLength n K
+  unfolding putRecord
+  record-length = length-splice (recordAt n K i) (layRecord f) b fits ∙ len
 
-  pub station-head : (k : ℕ) → k < 8 → byte (putStation n K i s b) k ≡ byte b k
-  unfolding putStation
-  station-head k h = byte-before (recordAt n K i) (recordBytes s) b fits k (omega (arith, head-before-records n K i))
+  pub record-head : (k : ℕ) → k < 8 → byte (putRecord n K i f b) k ≡ byte b k
+  unfolding putRecord
+  record-head k h = byte-before (recordAt n K i) (layRecord f) b fits k (omega (arith, head-before-records n K i))
 
-  pub station-before : (from size : ℕ) → from + size ≤ 8 → part from size (putStation n K i s b) ≡ part from size b
-  unfolding putStation
-  station-before from size h =
-      part-before (recordAt n K i) (recordBytes s) b fits from size (omega (arith, head-before-records n K i))
+  pub record-before : (from size : ℕ) → from + size ≤ 8 → part from size (putRecord n K i f b) ≡ part from size b
+  unfolding putRecord
+  record-before from size h =
+      part-before (recordAt n K i) (layRecord f) b fits from size (omega (arith, head-before-records n K i))
 
-  pub station-same : recordOf n K i (putStation n K i s b) ≡ recordBytes s
-  unfolding putStation recordOf
-  station-same =
-      ap (λ (k : ℕ). part (recordAt n K i) k (splice (recordAt n K i) (recordBytes s) b)) (sym (length-record s))
-      ∙ part-same (recordAt n K i) (recordBytes s) b fits
+  pub record-same : recordOf n K i (putRecord n K i f b) ≡ layRecord f
+  unfolding putRecord recordOf
+  record-same =
+      ap (λ (k : ℕ). part (recordAt n K i) k (splice (recordAt n K i) (layRecord f) b)) (sym (length-record f))
+      ∙ part-same (recordAt n K i) (layRecord f) b fits
 
-  pub station-other : (j : ℕ) → j < n → (i ≡ j → ⊥) → recordOf n K j (putStation n K i s b) ≡ recordOf n K j b
-  unfolding putStation recordOf
-  station-other j h f =
-      part-apart (recordAt n K i) (recordBytes s) b 24 (length-record s) (omega (arith, record-inside n K i own))
+  pub record-other : (j : ℕ) → j < n → (i ≡ j → ⊥) → recordOf n K j (putRecord n K i f b) ≡ recordOf n K j b
+  unfolding putRecord recordOf
+  record-other j h g =
+      part-apart (recordAt n K i) (layRecord f) b 24 (length-record f) (omega (arith, record-inside n K i own))
       (recordAt n K j) 24
-      (omega (arith, record-inside n K j h)) (records-apart n K j i (λ (e : j ≡ i). f (sym e)))
+      (omega (arith, record-inside n K j h)) (records-apart n K j i (λ (e : j ≡ i). g (sym e)))
 
-  pub station-register : (a : Array) (j : ℕ) → InBoard K a → j < n
-      → registerPart n a j (putStation n K i s b) ≡ registerPart n a j b
-  unfolding putStation registerPart
-  station-register a j h l =
-      part-before (recordAt n K i) (recordBytes s) b fits (registerAt n a j) 8 (register-inside n K a j i h l)
+  pub record-register : (a : Array) (j : ℕ) → InBoard K a → j < n
+      → registerPart n a j (putRecord n K i f b) ≡ registerPart n a j b
+  unfolding putRecord registerPart
+  record-register a j h l =
+      part-before (recordAt n K i) (layRecord f) b fits (registerAt n a j) 8 (register-inside n K a j i h l)
 
 module _ (n K : ℕ) (b : List ℕ) (len : length b ≡ boardLength n K) (a : Array) (inside : InBoard K a) (i : ℕ)
     (own : i < n) (r : Register Figure) where

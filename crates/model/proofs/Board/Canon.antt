@@ -3,16 +3,18 @@
 use Rattle.model.proofs.Kit.{_≡_, refl, sym, ap, subst, _∙_, Bool, false, cond, _&&_, _||_, ⊎-elim, List, []}
 use Rattle.model.proofs.Kit.{_∷_, _++_, ℕ, zero, suc, _+_, _≤_, eqb, leb, ltb, leb→le, T, eqb→eq, lit≤, pos}
 use Rattle.model.proofs.Kit.{length, replicate, arith}
+use mathlib.Core.Path.{subst⁻¹}
 use lib.Dec.{eqb·suc-zero}
-use Rattle.model.specs.Bytes.{byte, part, digits, zeros, implies}
+use Rattle.model.specs.Bytes.{byte, part, number, digits, zeros, implies}
 use Rattle.model.specs.Figure.{Figure, figure, figureBytes}
-use Rattle.model.specs.Listing.{Flag, adopt, commit, filled, Seen, nothing, flagOf, flagNumber}
+use Rattle.model.specs.Listing.{Flag, adopt, commit, filled, idle, Seen, nothing, flagOf, flagNumber}
 use Rattle.model.specs.Layout.{layRegister, readRegister, registerFields, registerValue, seenNumber, bestIsland}
 use Rattle.model.specs.Layout.{bestFigure, seenOf, writePhase, flagByte, readRecord, layRecord, fields}
-use Rattle.model.specs.Layout.{recordFields, recordValue, writingOf, readingOf, ofPhase}
+use Rattle.model.specs.Layout.{recordFields, recordValue, writingOf, readingOf, ofPhase, changed, phaseIs}
+use Rattle.model.specs.Layout.{positionIs, seenIs, highestIs, flagIs, bestIs}
 use Rattle.model.specs.Sound.{registerSound, collecting, phaseKnown, flagKnown, restZero, idleZero, collectZero}
 use Rattle.model.specs.Sound.{bestIslandZero, bestZero, seenKnown, fieldsSound}
-use Rattle.model.proofs.Board.Codec.{registerBytes, marked-by, register, recordBytes, station}
+use Rattle.model.proofs.Board.Codec.{registerBytes, marked-by, register, station}
 use Rattle.model.proofs.Basics.Tests.{and-l, and-r, or-case, zeros-is, implies-use}
 use Rattle.model.proofs.Basics.Numbers.{Bytes, bytes-figure}
 use Rattle.model.proofs.Basics.Splices.{length-part}
@@ -66,7 +68,7 @@ module _ (marks islands : ℕ) (low : marks ≤ 2) (r : List ℕ) (e : length r 
 -- ---- records
 
 module _ (r : List ℕ) (e : length r ≡ 24) (bytes : Bytes r) where
-  pub record-parts : r ≡ (byte r 0 ∷ byte r 1 ∷ byte r 2 ∷ byte r 3 ∷ byte r 4 ∷ byte r 5 ∷ byte r 6 ∷ byte r 7 ∷ [])
+  record-parts : r ≡ (byte r 0 ∷ byte r 1 ∷ byte r 2 ∷ byte r 3 ∷ byte r 4 ∷ byte r 5 ∷ byte r 6 ∷ byte r 7 ∷ [])
       ++ part 8 4 r ++ part 12 4 r ++ part 16 4 r ++ part 20 4 r
   unfolding listed
   record-parts =
@@ -78,18 +80,15 @@ module _ (r : List ℕ) (e : length r ≡ 24) (bytes : Bytes r) where
       ∙ ap (λ (l : List ℕ). l ++ part 12 4 r)
       (part-join 0 8 4 r ∙ ap (λ (l : List ℕ). l ++ part 8 4 r) (part-listed 0 8 r (omega arith)))))
 
-  pub figure-at : (at : ℕ) → at + 4 ≤ 24 → figureBytes (figure (part at 4 r)) ≡ part at 4 r
+  figure-at : (at : ℕ) → at + 4 ≤ 24 → figureBytes (figure (part at 4 r)) ≡ part at 4 r
   figure-at at h = bytes-figure (part at 4 r) (length-part at 4 r (omega arith)) (part-Bytes at 4 r bytes)
 
-  -- the fields of a record one by one
-  lay-parts : (phase p : ℕ) (a : Seen Figure) (flag : ℕ) → phase ≡ byte r 0 → p ≡ byte r 1 → seenNumber a ≡ byte r 3
-      → bestIsland a ≡ byte r 4
-      → flag ≡ byte r 5 → figureBytes (bestFigure a) ≡ part 16 4 r → T (restZero (byte r 0) r)
-      → layRecord (fields phase p (byte r 2) a flag (figure (part 8 4 r)) (figure (part 12 4 r))) ≡ r
-  unfolding layRecord fields restZero
-  lay-parts phase p a flag e0 e1 e3 e4 e5 e16 z =
-      (λ i. (e0 i ∷ e1 i ∷ byte r 2 ∷ e3 i ∷ e4 i ∷ e5 i ∷ six i ∷ seven i ∷ []) ++ figure-at 8 (lit≤ tt) i
-      ++ figure-at 12 (lit≤ tt) i ++ e16 i ++ last i)
+  -- a record is its fields and zeros
+  pub laid-fields : T (restZero (byte r 0) r) → layRecord (readRecord r) ≡ r
+  unfolding layRecord readRecord restZero
+  laid-fields z =
+      (λ i. (byte r 0 ∷ byte r 1 ∷ byte r 2 ∷ byte r 3 ∷ byte r 4 ∷ byte r 5 ∷ six i ∷ seven i ∷ [])
+      ++ figure-at 8 (lit≤ tt) i ++ figure-at 12 (lit≤ tt) i ++ figure-at 16 (lit≤ tt) i ++ last i)
       ∙ sym record-parts
     where
       front : T (zeros (part 6 2 r))
@@ -103,6 +102,17 @@ module _ (r : List ℕ) (e : length r ≡ 24) (bytes : Bytes r) where
 
       last : replicate 4 0 ≡ part 20 4 r
       last = sym (part-zeros 20 4 r (omega arith) (and-r (zeros (part 6 2 r)) (zeros (part 20 4 r)) z))
+
+-- the fields that tell how a station stands, one by one
+same-fields : (r : List ℕ) (phase p : ℕ) (a : Seen Figure) (flag : ℕ) → phase ≡ byte r 0 → p ≡ byte r 1
+    → seenNumber a ≡ byte r 3
+    → bestIsland a ≡ byte r 4 → flag ≡ byte r 5 → bestFigure a ≡ figure (part 16 4 r)
+    → fields phase p (byte r 2) a flag (figure (part 8 4 r)) (figure (part 12 4 r)) (readRecord r) ≡ readRecord r
+unfolding fields changed readRecord
+same-fields r phase p a flag e0 e1 e3 e4 e5 e16 =
+    λ i. changed
+    (phaseIs (e0 i) ∷ positionIs (e1 i) ∷ seenIs (e3 i) ∷ highestIs (e4 i) ∷ flagIs (e5 i) ∷ bestIs (e16 i) ∷ [])
+    (readRecord r)
 
 -- what the seen fields decode to encodes to them
 seen-number : (g k : ℕ) (y : Figure) → g ≤ 3 → seenNumber (seenOf g k y) ≡ g
@@ -119,13 +129,17 @@ best-island (suc zero) k y h = refl
 best-island (suc (suc zero)) k y h = refl
 best-island (suc (suc (suc g))) k y h = refl
 
-best-figure : (g k : ℕ) (y : Figure) (l : List ℕ) → figureBytes y ≡ l → (g ≡ 0 → l ≡ replicate 4 0)
-    → figureBytes (bestFigure (seenOf g k y)) ≡ l
-unfolding seenOf bestFigure figureBytes digits
-best-figure zero k y l e h = sym (h refl)
-best-figure (suc zero) k y l e h = e
-best-figure (suc (suc zero)) k y l e h = e
-best-figure (suc (suc (suc g))) k y l e h = e
+best-figure : (g k : ℕ) (y : Figure) → (g ≡ 0 → y ≡ pos 0) → bestFigure (seenOf g k y) ≡ y
+unfolding seenOf bestFigure
+best-figure zero k y h = sym (h refl)
+best-figure (suc zero) k y h = refl
+best-figure (suc (suc zero)) k y h = refl
+best-figure (suc (suc (suc g))) k y h = refl
+
+-- four zeros are the figure 0
+figure-zero : (r : List ℕ) → length r ≡ 24 → T (zeros (part 16 4 r)) → figure (part 16 4 r) ≡ pos 0
+unfolding figure number
+figure-zero r e z = ap figure (part-zeros 16 4 r (omega arith) z)
 
 flag-byte : (k : ℕ) → T (eqb k 1 || eqb k 2) → flagNumber (flagOf k) ≡ k
 unfolding flagOf flagNumber
@@ -163,16 +177,15 @@ module _ (n K phase : ℕ) (r : List ℕ) (t : T (fieldsSound n K phase r)) wher
   best-zero-fact = search (and-l, and-r) depth 12
 
 -- a phase outside the collects
-resting-parts : (n K phase : ℕ) (r : List ℕ) (e : length r ≡ 24) (bytes : Bytes r) → phase ≡ byte r 0
-    → T (fieldsSound n K phase r)
+resting-fields : (n K phase : ℕ) (r : List ℕ) (e : length r ≡ 24) → phase ≡ byte r 0 → T (fieldsSound n K phase r)
     → collecting phase r ≡ false → eqb phase 2 ≡ false → (flag : ℕ) → flag ≡ byte r 5
-    → layRecord (fields phase 0 (byte r 2) nothing flag (figure (part 8 4 r)) (figure (part 12 4 r))) ≡ r
-unfolding seenNumber bestIsland bestFigure figureBytes digits collectZero bestIslandZero restZero
-resting-parts n K phase r e bytes h t c m flag ef =
-    lay-parts r e bytes phase 0 nothing flag h (sym (eqb→eq (byte r 1) 0 (search (and-l, and-r, zero-parts))))
+    → fields phase 0 (byte r 2) nothing flag (figure (part 8 4 r)) (figure (part 12 4 r)) (readRecord r)
+    ≡ readRecord r
+unfolding seenNumber bestIsland bestFigure collectZero bestIslandZero
+resting-fields n K phase r e h t c m flag ef =
+    same-fields r phase 0 nothing flag h (sym (eqb→eq (byte r 1) 0 (search (and-l, and-r, zero-parts))))
     (sym (eqb→eq (byte r 3) 0 (search (and-l, and-r, zero-parts))))
-    (sym (eqb→eq (byte r 4) 0 island)) ef (sym (part-zeros 16 4 r (omega arith) (search (and-l, and-r, zero-parts))))
-    (rest-fact n K phase r t)
+    (sym (eqb→eq (byte r 4) 0 island)) ef (sym (figure-zero r e (search (and-l, and-r, zero-parts))))
   where
     zero-parts : T (eqb (byte r 1) 0 && eqb (byte r 3) 0 && zeros (part 16 4 r))
     zero-parts =
@@ -183,22 +196,19 @@ resting-parts n K phase r e bytes h t c m flag ef =
     island = subst (λ (b : Bool). T (b || eqb (byte r 4) 0)) m (best-island-fact n K phase r t)
 
 -- a phase in a collect
-reading-parts : (n K phase : ℕ) (r : List ℕ) (e : length r ≡ 24) (bytes : Bytes r) → phase ≡ byte r 0
-    → T (fieldsSound n K phase r)
+reading-fields : (n K phase : ℕ) (r : List ℕ) (e : length r ≡ 24) → phase ≡ byte r 0 → T (fieldsSound n K phase r)
     → byte r 3 ≤ 3 → (flag : ℕ) → flag ≡ byte r 5
-    → layRecord (fields phase (byte r 1) (byte r 2) (seenOf (byte r 3) (byte r 4) (figure (part 16 4 r))) flag
-    (figure (part 8 4 r)) (figure (part 12 4 r))) ≡ r
-unfolding bestZero restZero
-reading-parts n K phase r e bytes h t s flag ef =
-    lay-parts r e bytes phase (byte r 1) (seenOf (byte r 3) (byte r 4) (figure (part 16 4 r))) flag h refl
+    → fields phase (byte r 1) (byte r 2) (seenOf (byte r 3) (byte r 4) (figure (part 16 4 r))) flag
+    (figure (part 8 4 r)) (figure (part 12 4 r)) (readRecord r) ≡ readRecord r
+unfolding bestZero
+reading-fields n K phase r e h t s flag ef =
+    same-fields r phase (byte r 1) (seenOf (byte r 3) (byte r 4) (figure (part 16 4 r))) flag h refl
     (seen-number (byte r 3) (byte r 4) _ s)
     (best-island (byte r 3) (byte r 4) _
     (λ z. eqb→eq (byte r 4) 0 (and-l (eqb (byte r 4) 0) (zeros (part 16 4 r)) (unseen z))))
     ef
-    (best-figure (byte r 3) (byte r 4) _ (part 16 4 r)
-    (bytes-figure (part 16 4 r) (length-part 16 4 r (omega arith)) (part-Bytes 16 4 r bytes))
-    (λ z. part-zeros 16 4 r (omega arith) (and-r (eqb (byte r 4) 0) (zeros (part 16 4 r)) (unseen z))))
-    (rest-fact n K phase r t)
+    (best-figure (byte r 3) (byte r 4) _
+    (λ z. figure-zero r e (and-r (eqb (byte r 4) 0) (zeros (part 16 4 r)) (unseen z))))
   where
     unseen : byte r 3 ≡ 0 → T (eqb (byte r 4) 0 && zeros (part 16 4 r))
     unseen z =
@@ -208,39 +218,43 @@ reading-parts n K phase r e bytes h t s flag ef =
 above-eight : (k : ℕ) → T (leb (suc (suc (suc (suc (suc (suc (suc (suc (suc k))))))))) 8) → ⊥
 above-eight k t = omega (arith, leb→le (suc (suc (suc (suc (suc (suc (suc (suc (suc k))))))))) 8 t)
 
-idle-form : layRecord (fields 0 0 0 nothing 0 (pos 0) (pos 0)) ≡ replicate 24 0
-unfolding layRecord fields seenNumber bestIsland bestFigure figureBytes digits
-idle-form = refl
+idle-fields : (r : List ℕ) → r ≡ replicate 24 0 → recordFields idle (readRecord r) ≡ readRecord r
+unfolding readRecord recordFields fields changed seenNumber bestIsland bestFigure part figure number
+idle-fields r e = subst⁻¹ (λ (l : List ℕ). recordFields idle (readRecord l) ≡ readRecord l) e refl
 
 -- by the phase
-module _ (n K : ℕ) (r : List ℕ) (e : length r ≡ 24) (bytes : Bytes r) where
-  phase-canon : (phase : ℕ) → phase ≡ byte r 0 → T (fieldsSound n K phase r)
-      → recordBytes (ofPhase phase (readRecord r)) ≡ r
-  unfolding readRecord recordFields ofPhase writingOf readingOf writePhase flagByte flagKnown idleZero seenKnown implies
-      phaseKnown collecting
-  phase-canon zero h t = idle-form ∙ sym (zeros-is r (idle-fact n K 0 r t) ∙ ap (λ (k : ℕ). replicate k 0) e)
-  phase-canon (suc zero) h t =
-      resting-parts n K 1 r e bytes h t refl refl 0 (sym (eqb→eq (byte r 5) 0 (flag-fact n K 1 r t)))
-  phase-canon (suc (suc zero)) h t =
-      reading-parts n K 2 r e bytes h t (omega (arith, leb→le (byte r 3) 1 (seen-fact n K 2 r t))) 0
+module _ (n K : ℕ) (r : List ℕ) (e : length r ≡ 24) where
+  by-phase : (phase : ℕ) → phase ≡ byte r 0 → T (fieldsSound n K phase r)
+      → recordFields (ofPhase phase (readRecord r)) (readRecord r) ≡ readRecord r
+  unfolding readRecord recordFields ofPhase writingOf readingOf writePhase flagByte flagKnown idleZero seenKnown
+      implies phaseKnown collecting
+  by-phase zero h t = idle-fields r (zeros-is r (idle-fact n K 0 r t) ∙ ap (λ (k : ℕ). replicate k 0) e)
+  by-phase (suc zero) h t =
+      resting-fields n K 1 r e h t refl refl 0 (sym (eqb→eq (byte r 5) 0 (flag-fact n K 1 r t)))
+  by-phase (suc (suc zero)) h t =
+      reading-fields n K 2 r e h t (omega (arith, leb→le (byte r 3) 1 (seen-fact n K 2 r t))) 0
       (sym (eqb→eq (byte r 5) 0 (flag-fact n K 2 r t)))
-  phase-canon (suc (suc (suc zero))) h t =
-      resting-parts n K 3 r e bytes h t refl refl 0 (sym (eqb→eq (byte r 5) 0 (flag-fact n K 3 r t)))
-  phase-canon (suc (suc (suc (suc zero)))) h t =
-      reading-parts n K 4 r e bytes h t (omega (arith, leb→le (byte r 3) 2 (seen-fact n K 4 r t))) 0
+  by-phase (suc (suc (suc zero))) h t =
+      resting-fields n K 3 r e h t refl refl 0 (sym (eqb→eq (byte r 5) 0 (flag-fact n K 3 r t)))
+  by-phase (suc (suc (suc (suc zero)))) h t =
+      reading-fields n K 4 r e h t (omega (arith, leb→le (byte r 3) 2 (seen-fact n K 4 r t))) 0
       (sym (eqb→eq (byte r 5) 0 (flag-fact n K 4 r t)))
-  phase-canon (suc (suc (suc (suc (suc zero))))) h t =
-      resting-parts n K 5 r e bytes h t refl refl _ (flag-byte (byte r 5) (flag-fact n K 5 r t))
-  phase-canon (suc (suc (suc (suc (suc (suc zero)))))) h t =
-      reading-parts n K 6 r e bytes h t (leb→le (byte r 3) 3 (seen-fact n K 6 r t)) _
+  by-phase (suc (suc (suc (suc (suc zero))))) h t =
+      resting-fields n K 5 r e h t refl refl _ (flag-byte (byte r 5) (flag-fact n K 5 r t))
+  by-phase (suc (suc (suc (suc (suc (suc zero)))))) h t =
+      reading-fields n K 6 r e h t (leb→le (byte r 3) 3 (seen-fact n K 6 r t)) _
       (flag-byte (byte r 5) (flag-fact n K 6 r t))
-  phase-canon (suc (suc (suc (suc (suc (suc (suc zero))))))) h t =
-      resting-parts n K 7 r e bytes h t refl refl 0 (sym (eqb→eq (byte r 5) 0 (flag-fact n K 7 r t)))
-  phase-canon (suc (suc (suc (suc (suc (suc (suc (suc zero)))))))) h t =
-      resting-parts n K 8 r e bytes h t refl refl 0 (sym (eqb→eq (byte r 5) 0 (flag-fact n K 8 r t)))
-  phase-canon (suc (suc (suc (suc (suc (suc (suc (suc (suc k))))))))) h t =
+  by-phase (suc (suc (suc (suc (suc (suc (suc zero))))))) h t =
+      resting-fields n K 7 r e h t refl refl 0 (sym (eqb→eq (byte r 5) 0 (flag-fact n K 7 r t)))
+  by-phase (suc (suc (suc (suc (suc (suc (suc (suc zero)))))))) h t =
+      resting-fields n K 8 r e h t refl refl 0 (sym (eqb→eq (byte r 5) 0 (flag-fact n K 8 r t)))
+  by-phase (suc (suc (suc (suc (suc (suc (suc (suc (suc k))))))))) h t =
       absurd (above-eight k (known-fact n K (suc (suc (suc (suc (suc (suc (suc (suc (suc k))))))))) r t))
 
-  pub bytes-station : T (fieldsSound n K (byte r 0) r) → recordBytes (station r) ≡ r
+  pub fields-station : T (fieldsSound n K (byte r 0) r) → recordFields (station r) (readRecord r) ≡ readRecord r
   unfolding recordValue readRecord
-  bytes-station t = phase-canon (byte r 0) refl t
+  fields-station t = by-phase (byte r 0) refl t
+
+  -- and the fields to the bytes
+  pub bytes-record : Bytes r → T (fieldsSound n K (byte r 0) r) → layRecord (readRecord r) ≡ r
+  bytes-record bytes t = laid-fields r e bytes (rest-fact n K (byte r 0) r t)

@@ -1,6 +1,7 @@
 -- Registers and records as bytes: their lengths, and decoding after encoding is the identity on 32-bit figures.
 -- Relies on the layout and on Numbers; the laws on a board after a write rely on it.
 use Rattle.model.proofs.Kit.{_≡_, refl, ap, _∙_, List, [], _∷_, ℕ, zero, suc, lit<, length, w32, SFits}
+use Rattle.model.specs.declared.Record.{Record}
 use Rattle.model.specs.Bytes.{number, digits, part}
 use Rattle.model.specs.Figure.{Figure, figure, figureBytes}
 use Rattle.model.specs.Listing.{adopt, commit, turnM, turnA, turnB, first, second, third, Register, empty, filled}
@@ -12,15 +13,15 @@ use Rattle.model.specs.Layout.{layRecord, readRecord, fields, recordFiel
 use Rattle.model.specs.Layout.{ofPhase}
 use Rattle.model.proofs.Basics.Numbers.{figure-fits, figure-bytes}
 
--- a register and a station's record as bytes, and back
+-- a register and a station's record as bytes, the record having been f, and back
 abbrev pub registerBytes : Register Figure → List ℕ
 registerBytes r = layRegister (registerFields r)
 
 abbrev pub register : List ℕ → Register Figure
 register r = registerValue (readRegister r)
 
-abbrev pub recordBytes : Station Figure → List ℕ
-recordBytes s = layRecord (recordFields s)
+abbrev pub recordBytes : Station Figure → Record → List ℕ
+recordBytes s f = layRecord (recordFields s f)
 
 abbrev pub station : List ℕ → Station Figure
 station r = recordValue (readRecord r)
@@ -70,9 +71,9 @@ register-bytes empty h = refl
 register-bytes (filled adopt k v) h = ap (filled adopt k) (bytes-Fits v h)
 register-bytes (filled commit k v) h = ap (filled commit k) (bytes-Fits v h)
 
-pub length-record : (s : Station Figure) → length (recordBytes s) ≡ 24
+pub length-record : (f : Record) → length (layRecord f) ≡ 24
 unfolding layRecord figureBytes digits
-length-record s = refl
+length-record f = refl
 
 -- ---- a value survives its fields
 
@@ -83,23 +84,24 @@ seen-back (seen first k y) = refl
 seen-back (seen second k y) = refl
 seen-back (seen third k y) = refl
 
-station-back : (s : Station Figure) → recordValue (recordFields s) ≡ s
-unfolding recordValue ofPhase writingOf readingOf recordFields fields writePhase flagByte flagNumber flagOf
-station-back idle = refl
-station-back (active v (writing turnM c x)) = refl
-station-back (active v (writing turnA c x)) = refl
-station-back (active v (writing (turnB adopt) c x)) = refl
-station-back (active v (writing (turnB commit) c x)) = refl
-station-back (active v (reading turnM c x p a)) =
+station-back : (s : Station Figure) (f : Record) → recordValue (recordFields s f) ≡ s
+unfolding recordValue ofPhase writingOf readingOf recordFields fields changed writePhase flagByte
+    flagNumber flagOf
+station-back idle f = refl
+station-back (active v (writing turnM c x)) f = refl
+station-back (active v (writing turnA c x)) f = refl
+station-back (active v (writing (turnB adopt) c x)) f = refl
+station-back (active v (writing (turnB commit) c x)) f = refl
+station-back (active v (reading turnM c x p a)) f =
     ap (λ (a : Seen Figure). active v (reading turnM c x p a)) (seen-back a)
-station-back (active v (reading turnA c x p a)) =
+station-back (active v (reading turnA c x p a)) f =
     ap (λ (a : Seen Figure). active v (reading turnA c x p a)) (seen-back a)
-station-back (active v (reading (turnB adopt) c x p a)) =
+station-back (active v (reading (turnB adopt) c x p a)) f =
     ap (λ (a : Seen Figure). active v (reading (turnB adopt) c x p a)) (seen-back a)
-station-back (active v (reading (turnB commit) c x p a)) =
+station-back (active v (reading (turnB commit) c x p a)) f =
     ap (λ (a : Seen Figure). active v (reading (turnB commit) c x p a)) (seen-back a)
-station-back (active v (has-decided c x)) = refl
-station-back (active v (is-spent c x)) = refl
+station-back (active v (has-decided c x)) f = refl
+station-back (active v (is-spent c x)) f = refl
 
 -- ---- and its fields survive their bytes
 
@@ -108,20 +110,21 @@ unfolding bestFigure FitsSeen figure figureBytes digits number
 best-back nothing h = refl
 best-back (seen g k y) h = bytes-Fits y h
 
-fields-back : (phase p c : ℕ) (a : Seen Figure) (flag : ℕ) (v x : Figure) → Fits v → Fits x → FitsSeen a
-    → readRecord (layRecord (fields phase p c a flag v x)) ≡ fields phase p c a flag v x
+fields-back : (phase p c : ℕ) (a : Seen Figure) (flag : ℕ) (v x : Figure) (f : Record) → Fits v → Fits x → FitsSeen a
+    → readRecord (layRecord (fields phase p c a flag v x f)) ≡ fields phase p c a flag v x (readRecord (layRecord f))
 unfolding readRecord layRecord fields changed part figureBytes digits
-fields-back phase p c a flag v x hv hx ha =
+fields-back phase p c a flag v x f hv hx ha =
     λ i. changed (proposalIs (bytes-Fits v hv i) ∷ carriedIs (bytes-Fits x hx i) ∷ bestIs (best-back a ha i) ∷ [])
-    (fields phase p c a flag v x)
+    (fields phase p c a flag v x (readRecord (layRecord f)))
 
-pub record-back : (s : Station Figure) → FitsStation s → readRecord (recordBytes s) ≡ recordFields s
+pub record-back : (s : Station Figure) (f : Record) → FitsStation s
+    → readRecord (recordBytes s f) ≡ recordFields s (readRecord (layRecord f))
 unfolding recordFields FitsStation FitsStage FitsSeen Fits
-record-back idle h = fields-back _ _ _ nothing _ _ _ (record { sfits = lit< tt }) (record { sfits = lit< tt }) tt
-record-back (active v (writing t c x)) h = fields-back _ _ _ nothing _ _ _ (h .0) (h .1) tt
-record-back (active v (reading t c x p a)) h = fields-back _ _ _ a _ _ _ (h .0) (h .1 .0) (h .1 .1)
-record-back (active v (has-decided c x)) h = fields-back _ _ _ nothing _ _ _ (h .0) (h .1) tt
-record-back (active v (is-spent c x)) h = fields-back _ _ _ nothing _ _ _ (h .0) (h .1) tt
+record-back idle f h = fields-back _ _ _ nothing _ _ _ f (record { sfits = lit< tt }) (record { sfits = lit< tt }) tt
+record-back (active v (writing t c x)) f h = fields-back _ _ _ nothing _ _ _ f (h .0) (h .1) tt
+record-back (active v (reading t c x p a)) f h = fields-back _ _ _ a _ _ _ f (h .0) (h .1 .0) (h .1 .1)
+record-back (active v (has-decided c x)) f h = fields-back _ _ _ nothing _ _ _ f (h .0) (h .1) tt
+record-back (active v (is-spent c x)) f h = fields-back _ _ _ nothing _ _ _ f (h .0) (h .1) tt
 
-pub station-bytes : (s : Station Figure) → FitsStation s → station (recordBytes s) ≡ s
-station-bytes s h = ap recordValue (record-back s h) ∙ station-back s
+pub station-bytes : (s : Station Figure) (f : Record) → FitsStation s → station (recordBytes s f) ≡ s
+station-bytes s f h = ap recordValue (record-back s f h) ∙ station-back s (readRecord (layRecord f))

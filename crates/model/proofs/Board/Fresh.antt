@@ -1,25 +1,22 @@
 -- A fresh board is sound: every part of it past n and K is zero.
--- Relies on Splices, Places, Keeps; the laws of laying rely on it.
+-- Relies on Splices, Places and the clauses of soundness; the laws of laying rely on it.
 use Rattle.model.proofs.Kit.{_≡_, sym, _∙_, List, ℕ, zero, suc, _+_, _-_, _≤_, _<_, _*_, T, lit≤, length}
-use Rattle.model.proofs.Kit.{replicate, length-replicate, arith}
+use Rattle.model.proofs.Kit.{true, lt-ltb, replicate, length-replicate, arith}
 use mathlib.Core.Path.{subst⁻¹}
 use lib.ListN.{getD-replicate}
 use lib.Seq.{ext-getD}
-use Rattle.model.specs.Bytes.{byte, part, zeros, digits}
-use Rattle.model.specs.Figure.{figureBytes}
-use Rattle.model.specs.Listing.{idle, Array}
-use Rattle.model.specs.Layout.{boardLength, registerAt, recordAt, freshBoard, fields, recordFields, layRecord}
-use Rattle.model.specs.Layout.{seenNumber, bestIsland, bestFigure, recordOf}
-use Rattle.model.specs.Sound.{headSound, registerSound, ownWritten, ownPassed, recordSound}
-use Rattle.model.proofs.Basics.Tests.{zeros-replicate}
+use Rattle.model.specs.Bytes.{byte, part, zeros, implies}
+use Rattle.model.specs.Listing.{Array}
+use Rattle.model.specs.Layout.{boardLength, registerAt, recordAt, freshBoard, readRecord, recordValue, ofPhase}
+use Rattle.model.specs.Layout.{recordOf}
+use Rattle.model.specs.Sound.{headSound, registerSound, ownWritten, ownPassed, collecting, phaseKnown}
+use Rattle.model.specs.Sound.{positionInside, islandInside, bestInside, flagKnown, restZero, idleZero}
+use Rattle.model.specs.Sound.{collectZero, bestIslandZero, bestZero, seenKnown, fieldsSound, recordSound}
+use Rattle.model.proofs.Basics.Tests.{zeros-replicate, true-T}
 use Rattle.model.proofs.Basics.Splices.{length-part, byte-part}
 use Rattle.model.proofs.Board.Places.{InBoard, register-fits, record-inside, head-first, head-before-records}
 use Rattle.model.proofs.Board.Boards.{registerPart}
-use Rattle.model.proofs.Board.Codec.{recordBytes, FitsStation}
-use Rattle.model.proofs.Board.Good.{GoodStation}
 use Rattle.model.proofs.Board.SoundFacts.{registerTest, SoundBoard}
-use Rattle.model.proofs.Board.Values.{SoundStation}
-use Rattle.model.proofs.Board.Keeps.{record-sound}
 
 module _ (n K : ℕ) where
   pub length-fresh : length (freshBoard n K) ≡ boardLength n K
@@ -47,20 +44,22 @@ module _ (n K : ℕ) where
   unfolding registerTest registerSound zeros
   empty-sound a = tt
 
-  pub fresh-idle : (i : ℕ) → i < n → recordOf n K i (freshBoard n K) ≡ recordBytes idle
-  unfolding recordOf recordFields fields layRecord seenNumber bestIsland bestFigure figureBytes digits
-  fresh-idle i h = part-fresh (recordAt n K i) 24 (omega (arith, head-before-records n K i)) (record-inside n K i h)
+  pub fresh-zero : (i : ℕ) → i < n → recordOf n K i (freshBoard n K) ≡ replicate 24 0
+  unfolding recordOf
+  fresh-zero i h = part-fresh (recordAt n K i) 24 (omega (arith, head-before-records n K i)) (record-inside n K i h)
 
   pub fresh-empty : (a : Array) → InBoard K a → (j : ℕ) → j < n → registerPart n a j (freshBoard n K) ≡ replicate 8 0
   unfolding registerPart
   fresh-empty a h j l = part-fresh (registerAt n a j) 8 (omega (arith, head-first n K a j)) (register-fits n K a j h l)
 
-  idle-sound : (i : ℕ) → SoundStation n K i (freshBoard n K) idle
-  unfolding GoodStation ownWritten ownPassed
-  idle-sound i = record { good = tt; written = tt; passed = tt }
+  zero-sound : 0 < n → 0 < K → (i : ℕ) → recordSound n K i (freshBoard n K) (replicate 24 0) ≡ true
+  unfolding recordSound fieldsSound phaseKnown positionInside islandInside bestInside flagKnown restZero idleZero
+      collectZero bestIslandZero bestZero seenKnown collecting implies zeros part readRecord recordValue ofPhase
+      ownWritten ownPassed
+  zero-sound hn hK i = simp (lt-ltb 0 n hn, lt-ltb 0 K hK)
 
   pub fresh-sound : 0 < n → 0 < K → SoundBoard n K (freshBoard n K)
-  unfolding headSound FitsStation
+  unfolding headSound
   fresh-sound hn hK = record {
     len = length-fresh;
     head =
@@ -69,6 +68,6 @@ module _ (n K : ℕ) where
         (zeros-replicate 6);
     registers = λ a h j l. subst⁻¹ (λ (r : List ℕ). T (registerTest K a r)) (fresh-empty a h j l) (empty-sound a);
     records = λ j h.
-        subst⁻¹ (λ (r : List ℕ). T (recordSound n K j (freshBoard n K) r)) (fresh-idle j h)
-        (record-sound n K hn hK j (freshBoard n K) idle tt (idle-sound j));
+        subst⁻¹ (λ (r : List ℕ). T (recordSound n K j (freshBoard n K) r)) (fresh-zero j h)
+        (true-T _ (zero-sound hn hK j));
   }

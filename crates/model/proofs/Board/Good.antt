@@ -2,13 +2,14 @@
 -- Relies on soundness's clauses and the codec; that the calls keep a board sound relies on it.
 use Rattle.model.proofs.Kit.{_≡_, refl, true, _||_, List, ℕ, zero, suc, _≤_, _<_, lt-ltb, eqb, leb→le, T, eqb→eq}
 use Rattle.model.proofs.Kit.{ltb→lt, arith}
+use Rattle.model.specs.declared.Record.{Record}
 use Rattle.model.specs.Bytes.{byte, part, zeros, implies, digits}
 use Rattle.model.specs.Figure.{Figure, figureBytes}
 use Rattle.model.specs.Listing.{Flag, adopt, commit, Turn, turnM, turnA, turnB, first, second, third, Seen}
 use Rattle.model.specs.Listing.{nothing, seen, Stage, writing, reading, has-decided, is-spent, Station, idle}
 use Rattle.model.specs.Listing.{active, flagNumber}
 use Rattle.model.specs.Layout.{seenNumber, bestIsland, bestFigure, seenOf, writePhase, flagByte, layRecord}
-use Rattle.model.specs.Layout.{fields, recordFields, readRecord, writingOf, readingOf, ofPhase}
+use Rattle.model.specs.Layout.{fields, recordFields, readRecord, changed, writingOf, readingOf, ofPhase}
 use Rattle.model.specs.Sound.{collecting, phaseKnown, positionInside, islandInside, bestInside, flagKnown}
 use Rattle.model.specs.Sound.{restZero, idleZero, collectZero, bestIslandZero, bestZero, seenKnown, fieldsSound}
 use Rattle.model.proofs.Board.Codec.{recordBytes}
@@ -112,37 +113,36 @@ unfolding flagNumber
 flag-known adopt = refl
 flag-known commit = refl
 
--- and back: a good station encodes to a record whose fields pass
-pub good-fields : (n K : ℕ) → 0 < n → 0 < K → (s : Station Figure) → GoodStation n K s
-    → fieldsSound n K (byte (recordBytes s) 0) (recordBytes s) ≡ true
-unfolding GoodStation GoodStage GoodSeen fieldsSound phaseKnown positionInside islandInside bestInside flagKnown
-    restZero idleZero collectZero bestIslandZero bestZero seenKnown collecting implies zeros part recordFields fields
-    layRecord writePhase flagByte seenNumber bestIsland bestFigure figureBytes digits
-good-fields n K hn hK idle h = simp (lt-ltb 0 n hn, lt-ltb 0 K hK)
-good-fields n K hn hK (active v (writing turnM c x)) h = simp (lt-ltb 0 n hn, lt-ltb 0 K hK, lt-ltb c K h)
-good-fields n K hn hK (active v (writing turnA c x)) h = simp (lt-ltb 0 n hn, lt-ltb 0 K hK, lt-ltb c K h)
-good-fields n K hn hK (active v (writing (turnB f) c x)) h =
-    simp (lt-ltb 0 n hn, lt-ltb 0 K hK, lt-ltb c K h, flag-known f)
-good-fields n K hn hK (active v (has-decided c x)) h = simp (lt-ltb 0 n hn, lt-ltb 0 K hK, lt-ltb c K h)
-good-fields n K hn hK (active v (is-spent c x)) h = simp (lt-ltb 0 n hn, lt-ltb 0 K hK, lt-ltb c K h)
-good-fields n K hn hK (active v (reading turnM c x p nothing)) h =
+-- and back: a good stage encodes to a record whose fields pass, whatever the record was
+pub good-fields : (n K : ℕ) → 0 < n → 0 < K → (v : Figure) (s : Stage Figure) (f : Record) → GoodStage n K s
+    → fieldsSound n K (byte (recordBytes (active v s) f) 0) (recordBytes (active v s) f) ≡ true
+unfolding GoodStage GoodSeen fieldsSound phaseKnown positionInside islandInside bestInside flagKnown restZero idleZero
+    collectZero bestIslandZero bestZero seenKnown collecting implies zeros part recordFields fields changed layRecord
+    writePhase flagByte seenNumber bestIsland bestFigure figureBytes digits
+good-fields n K hn hK v (writing turnM c x) f h = simp (lt-ltb 0 n hn, lt-ltb 0 K hK, lt-ltb c K h)
+good-fields n K hn hK v (writing turnA c x) f h = simp (lt-ltb 0 n hn, lt-ltb 0 K hK, lt-ltb c K h)
+good-fields n K hn hK v (writing (turnB e) c x) f h =
+    simp (lt-ltb 0 n hn, lt-ltb 0 K hK, lt-ltb c K h, flag-known e)
+good-fields n K hn hK v (has-decided c x) f h = simp (lt-ltb 0 n hn, lt-ltb 0 K hK, lt-ltb c K h)
+good-fields n K hn hK v (is-spent c x) f h = simp (lt-ltb 0 n hn, lt-ltb 0 K hK, lt-ltb c K h)
+good-fields n K hn hK v (reading turnM c x p nothing) f h =
     simp (lt-ltb p n (h .1), lt-ltb 0 K hK, lt-ltb c K (h .0))
-good-fields n K hn hK (active v (reading turnM c x p (seen first k y))) h =
+good-fields n K hn hK v (reading turnM c x p (seen first k y)) f h =
     simp (lt-ltb p n (h .1), lt-ltb k K (h .2), lt-ltb c K (h .0))
-good-fields n K hn hK (active v (reading turnM c x p (seen second k y))) h = absurd (h .2)
-good-fields n K hn hK (active v (reading turnM c x p (seen third k y))) h = absurd (h .2)
-good-fields n K hn hK (active v (reading turnA c x p nothing)) h =
+good-fields n K hn hK v (reading turnM c x p (seen second k y)) f h = absurd (h .2)
+good-fields n K hn hK v (reading turnM c x p (seen third k y)) f h = absurd (h .2)
+good-fields n K hn hK v (reading turnA c x p nothing) f h =
     simp (lt-ltb p n (h .1), lt-ltb 0 K hK, lt-ltb c K (h .0))
-good-fields n K hn hK (active v (reading turnA c x p (seen first k y))) h =
+good-fields n K hn hK v (reading turnA c x p (seen first k y)) f h =
     simp (h .2, lt-ltb p n (h .1), lt-ltb 0 K hK, lt-ltb c K (h .0))
-good-fields n K hn hK (active v (reading turnA c x p (seen second k y))) h =
+good-fields n K hn hK v (reading turnA c x p (seen second k y)) f h =
     simp (h .2, lt-ltb p n (h .1), lt-ltb 0 K hK, lt-ltb c K (h .0))
-good-fields n K hn hK (active v (reading turnA c x p (seen third k y))) h = absurd (h .2)
-good-fields n K hn hK (active v (reading (turnB f) c x p nothing)) h =
-    simp (flag-known f, lt-ltb p n (h .1), lt-ltb 0 K hK, lt-ltb c K (h .0))
-good-fields n K hn hK (active v (reading (turnB f) c x p (seen first k y))) h =
-    simp (flag-known f, h .2, lt-ltb p n (h .1), lt-ltb 0 K hK, lt-ltb c K (h .0))
-good-fields n K hn hK (active v (reading (turnB f) c x p (seen second k y))) h =
-    simp (flag-known f, h .2, lt-ltb p n (h .1), lt-ltb 0 K hK, lt-ltb c K (h .0))
-good-fields n K hn hK (active v (reading (turnB f) c x p (seen third k y))) h =
-    simp (flag-known f, h .2, lt-ltb p n (h .1), lt-ltb 0 K hK, lt-ltb c K (h .0))
+good-fields n K hn hK v (reading turnA c x p (seen third k y)) f h = absurd (h .2)
+good-fields n K hn hK v (reading (turnB e) c x p nothing) f h =
+    simp (flag-known e, lt-ltb p n (h .1), lt-ltb 0 K hK, lt-ltb c K (h .0))
+good-fields n K hn hK v (reading (turnB e) c x p (seen first k y)) f h =
+    simp (flag-known e, h .2, lt-ltb p n (h .1), lt-ltb 0 K hK, lt-ltb c K (h .0))
+good-fields n K hn hK v (reading (turnB e) c x p (seen second k y)) f h =
+    simp (flag-known e, h .2, lt-ltb p n (h .1), lt-ltb 0 K hK, lt-ltb c K (h .0))
+good-fields n K hn hK v (reading (turnB e) c x p (seen third k y)) f h =
+    simp (flag-known e, h .2, lt-ltb p n (h .1), lt-ltb 0 K hK, lt-ltb c K (h .0))

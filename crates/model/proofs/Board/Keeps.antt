@@ -2,18 +2,19 @@
 -- Relies on Boards and Values; that the calls keep a board sound relies on it.
 use Rattle.model.proofs.Kit.{_≡_, refl, sym, ap, subst, _&&_, List, some, ℕ, _<_, T, lit≤, ℕ-discrete, arith}
 use mathlib.Core.Path.{subst⁻¹}
+use Rattle.model.specs.declared.Record.{Record}
 use Rattle.model.specs.Bytes.{byte, zeros}
 use Rattle.model.specs.Figure.{Figure}
-use Rattle.model.specs.Listing.{Register, writing, reading, has-decided, is-spent, Station, idle, active, Array}
-use Rattle.model.specs.Listing.{array, entry}
-use Rattle.model.specs.Layout.{readRecord, recordValue, registerOf, recordOf}
+use Rattle.model.specs.Listing.{Register, Stage, writing, reading, has-decided, is-spent, Station, idle, active}
+use Rattle.model.specs.Listing.{Array, array, entry}
+use Rattle.model.specs.Layout.{readRecord, layRecord, recordFields, recordValue, registerOf, recordOf}
 use Rattle.model.specs.Sound.{headSound, ownWritten, ownPassed, sameRegister, fieldsSound, recordSound}
-use Rattle.model.specs.Calls.{putStation, putRegister}
+use Rattle.model.specs.Calls.{putRecord, putRegister}
 use Rattle.model.proofs.Basics.Tests.{and-l, and-r, and-i, true-T}
 use Rattle.model.proofs.Board.Places.{InBoard, same-place}
 use Rattle.model.proofs.Board.Codec.{registerBytes, recordBytes, register, station, FitsStation, station-bytes}
-use Rattle.model.proofs.Board.Boards.{registerPart, station-length, station-before, station-same, station-other}
-use Rattle.model.proofs.Board.Boards.{station-register, register-length, register-before, register-same}
+use Rattle.model.proofs.Board.Boards.{registerPart, record-length, record-before, record-same, record-other}
+use Rattle.model.proofs.Board.Boards.{record-register, register-length, register-before, register-same}
 use Rattle.model.proofs.Board.Boards.{register-other, register-record}
 use Rattle.model.proofs.Board.Good.{GoodStation, GoodStage, fields-good, good-fields}
 use Rattle.model.proofs.Board.SoundFacts.{registerTest, SoundBoard, SoundBut}
@@ -87,45 +88,52 @@ module _ (i n K : ℕ) (b : List ℕ) (s : SoundBut i n K b) (a : Array) (inside
   }
 
 -- A good station with its own clauses encodes to a sound record.
-pub record-sound : (n K : ℕ) → 0 < n → 0 < K → (i : ℕ) (b : List ℕ) (s : Station Figure) → FitsStation s
-    → SoundStation n K i b s
-    → T (recordSound n K i b (recordBytes s))
-unfolding recordSound
-record-sound n K hn hK i b s fits g =
-    and-i (fieldsSound n K (byte (recordBytes s) 0) (recordBytes s) && ownWritten n i b (station (recordBytes s)))
-    (ownPassed i (station (recordBytes s)))
-    (and-i (fieldsSound n K (byte (recordBytes s) 0) (recordBytes s)) (ownWritten n i b (station (recordBytes s)))
-    (true-T _ (good-fields n K hn hK s (g .good)))
-    (subst⁻¹ (λ (z : Station Figure). T (ownWritten n i b z)) (station-bytes s fits) (g .written)))
-    (subst⁻¹ (λ (z : Station Figure). T (ownPassed i z)) (station-bytes s fits) (g .passed))
+pub record-sound : (n K : ℕ) → 0 < n → 0 < K → (i : ℕ) (b : List ℕ) (v : Figure) (s : Stage Figure) (f : Record)
+    → FitsStation (active v s) → SoundStation n K i b (active v s)
+    → T (recordSound n K i b (recordBytes (active v s) f))
+unfolding recordSound GoodStation
+record-sound n K hn hK i b v s f fits g =
+    let r = recordBytes (active v s) f in
+    and-i (fieldsSound n K (byte r 0) r && ownWritten n i b (station r)) (ownPassed i (station r))
+    (and-i (fieldsSound n K (byte r 0) r) (ownWritten n i b (station r))
+    (true-T _ (good-fields n K hn hK v s f (g .good)))
+    (subst⁻¹ (λ (z : Station Figure). T (ownWritten n i b z)) (station-bytes (active v s) f fits) (g .written)))
+    (subst⁻¹ (λ (z : Station Figure). T (ownPassed i z)) (station-bytes (active v s) f fits) (g .passed))
 
--- The record of station index i is put in.
-module _ (i n K : ℕ) (b : List ℕ) (q : SoundBut i n K b) (own : i < n) (hK : 0 < K) (s : Station Figure)
-    (fits : FitsStation s) (g : SoundStation n K i b s) where
+-- A record of station index i is put in that is sound there.
+module _ (i n K : ℕ) (b : List ℕ) (q : SoundBut i n K b) (own : i < n) (f : Record)
+    (g : T (recordSound n K i b (layRecord f))) where
   own-registers : (j : ℕ) → j < n → (a : Array) → InBoard K a
-      → registerPart n a j (putStation n K i s b) ≡ registerPart n a j b
-  own-registers j h a l = station-register n K b (q .len) i own s a j l h
+      → registerPart n a j (putRecord n K i f b) ≡ registerPart n a j b
+  own-registers j h a l = record-register n K b (q .len) i own f a j l h
 
-  record-at : (j : ℕ) → j < n → T (recordSound n K j b (recordOf n K j (putStation n K i s b)))
+  record-at : (j : ℕ) → j < n → T (recordSound n K j b (recordOf n K j (putRecord n K i f b)))
   record-at j h = go (ℕ-discrete i j)
     where
-      go : Dec (i ≡ j) → T (recordSound n K j b (recordOf n K j (putStation n K i s b)))
+      go : Dec (i ≡ j) → T (recordSound n K j b (recordOf n K j (putRecord n K i f b)))
       go (yes e) =
-          subst (λ (k : ℕ). T (recordSound n K k b (recordOf n K k (putStation n K i s b)))) e
-          (subst⁻¹ (λ (l : List ℕ). T (recordSound n K i b l)) (station-same n K b (q .len) i own s)
-          (record-sound n K (omega arith) hK i b s fits g))
-      go (no f) =
-          subst⁻¹ (λ (l : List ℕ). T (recordSound n K j b l)) (station-other n K b (q .len) i own s j h f)
-          (q .others j h f)
+          subst (λ (k : ℕ). T (recordSound n K k b (recordOf n K k (putRecord n K i f b)))) e
+          (subst⁻¹ (λ (l : List ℕ). T (recordSound n K i b l)) (record-same n K b (q .len) i own f) g)
+      go (no d) =
+          subst⁻¹ (λ (l : List ℕ). T (recordSound n K j b l)) (record-other n K b (q .len) i own f j h d)
+          (q .others j h d)
 
-  pub station-keeps : SoundBoard n K (putStation n K i s b)
+  record-keeps : SoundBoard n K (putRecord n K i f b)
   unfolding headSound
-  station-keeps = record {
-    len = station-length n K b (q .len) i own s;
-    head = subst⁻¹ (λ (l : List ℕ). T (zeros l)) (station-before n K b (q .len) i own s 2 6 (lit≤ tt)) (q .head);
+  record-keeps = record {
+    len = record-length n K b (q .len) i own f;
+    head = subst⁻¹ (λ (l : List ℕ). T (zeros l)) (record-before n K b (q .len) i own f 2 6 (lit≤ tt)) (q .head);
     registers =
         λ a h j l. subst⁻¹ (λ (z : List ℕ). T (registerTest K a z)) (own-registers j l a h) (q .registers a h j l);
     records =
-        λ j h. record-as n K j b (putStation n K i s b) (recordOf n K j (putStation n K i s b)) (own-registers j h)
+        λ j h. record-as n K j b (putRecord n K i f b) (recordOf n K j (putRecord n K i f b)) (own-registers j h)
         (record-at j h);
   }
+
+-- A station of index i that comes to stand otherwise, whatever its record was.
+pub station-keeps : (i n K : ℕ) (b : List ℕ) → SoundBut i n K b → i < n → 0 < K → (v : Figure) (s : Stage Figure)
+    (f : Record)
+    → FitsStation (active v s) → SoundStation n K i b (active v s)
+    → SoundBoard n K (putRecord n K i (recordFields (active v s) f) b)
+station-keeps i n K b q own hK v s f fits g =
+    record-keeps i n K b q own _ (record-sound n K (omega arith) hK i b v s f fits g)

@@ -48,7 +48,7 @@ module _ (n K : ℕ) (b : List ℕ) (q : SoundBoard n K b) (i : ℕ) (own : i < 
       let len = register-length n K b (q .len) (array t c) inside i own (entry t c x) in
       rw (
         write-bytes n K i v b t c x,
-        view-put-station n K _ len i own (active v (reading t c x 0 nothing)) (fits .0, (fits .1, tt)),
+        view-put-station n K _ len i own (active v (reading t c x 0 nothing)) _ (fits .0, (fits .1, tt)),
         view-put-register n K b (q .len) i own (array t c) (entry t c x) inside (entry-fits t c x (fits .1)),
       ) (unfold move in refl)
   access-view (reading t c x p a) h fits g =
@@ -56,7 +56,7 @@ module _ (n K : ℕ) (b : List ℕ) (q : SoundBoard n K b) (i : ℕ) (own : i < 
       let stays = move-fits n K (reading t c x p a) _ (fits .1) (readable n K b q i own v (reading t c x p a) g) in
       rw (
         read-bytes n K i v b t c x p a,
-        view-put-station n K b (q .len) i own (active v (m .stage)) (fits .0, stays),
+        view-put-station n K b (q .len) i own (active v (m .stage)) _ (fits .0, stays),
         view-register n K b (array t c) p (array-inside K t c (g .good .0)) (g .good .1),
         read-writes K figures n t c x p a,
       )
@@ -109,7 +109,7 @@ propose-sim n K i v b fits r a =
       positive = s .0 .low;
       own = own;
       rests = idle-of (stationAt i b) (s .1);
-      after = view-put-station _ _ b (r .board .sound-board .len) (i - 1) own (proposed v) (proposed-fits v fits);
+      after = view-put-station _ _ b (r .board .sound-board .len) (i - 1) own (proposed v) _ (proposed-fits v fits);
     })
     (λ k e f. some-none k f) a)
 

@@ -3,14 +3,15 @@
 use Rattle.model.proofs.Kit.{_≡_, refl, sym, ap, _∙_, Bool, true, false, cond, _&&_, List, some, ℕ, _<_, lt-ltb}
 use Rattle.model.proofs.Kit.{eqb-true, eqb-false, eq-eqb, ltb-true, eqb, ltb, length}
 use mathlib.Core.Logic.{_↔_}
+use Rattle.model.specs.declared.Record.{Record}
 use Rattle.model.specs.Figure.{Figure}
 use Rattle.model.specs.Listing.{Register, empty, Station, idle, Array, inM, inA, inB}
-use Rattle.model.specs.Layout.{boardLength, registerOf, stationOf}
-use Rattle.model.specs.Calls.{putStation, putRegister}
+use Rattle.model.specs.Layout.{recordFields, boardLength, registerOf, stationOf}
+use Rattle.model.specs.Calls.{putRecord, putRegister}
 use Rattle.model.proofs.Basics.Tests.{both-true, clash}
 use Rattle.model.proofs.Board.Places.{InBoard}
 use Rattle.model.proofs.Board.Codec.{register, station, FitsRegister, FitsStation, register-bytes, station-bytes}
-use Rattle.model.proofs.Board.Boards.{registerPart, station-same, station-other, station-register, register-same}
+use Rattle.model.proofs.Board.Boards.{registerPart, record-same, record-other, record-register, register-same}
 use Rattle.model.proofs.Board.Boards.{register-other, register-record}
 use Rattle.model.proofs.Agreement.State.{State, put, sameArray, array-is, array-self, putWritten}
 
@@ -61,16 +62,20 @@ cond-put t true x y z w f g = cc (f refl .0, f refl .1)
 cond-put t false x y z w f g = cond-as t x y z (g refl)
 
 module _ (n K : ℕ) (b : List ℕ) (len : length b ≡ boardLength n K) (i : ℕ) (own : i < n) where
-  pub view-put-station : (s : Station Figure) → FitsStation s → view n K (putStation n K i s b)
+  pub view-put-station : (s : Station Figure) (f : Record) → FitsStation s
+      → view n K (putRecord n K i (recordFields s f) b)
       ≡ (record { station = put i s (view n K b .station); register = view n K b .register })
   unfolding view put stationOf registerOf registerPart
-  view-put-station s fits = λ k. record {
+  view-put-station s f fits = λ k. record {
     station = λ j. cond-put (ltb j n) (eqb i j) _ _ idle s
-        (λ e. let h : j ≡ i = sym (eqb-true i j e) in
-        (lt-ltb j n (rw h own), rw h (ap station (station-same n K b len i own s) ∙ station-bytes s fits)))
-        (λ e t. ap station (station-other n K b len i own s j (ltb-true j n t) (eqb-false i j e))) k;
+        (λ e. let h : j ≡ i = sym (eqb-true i j e) in (
+          lt-ltb j n (rw h own),
+          rw h (ap station (record-same n K b len i own (recordFields s f)) ∙ station-bytes s f fits),
+        ))
+        (λ e t. ap station (record-other n K b len i own (recordFields s f) j (ltb-true j n t) (eqb-false i j e))) k;
     register = λ a j. cond-as (inside K a && ltb j n) _ _ empty
-        (λ e. let h = there n K a j .0 e in ap register (station-register n K b len i own s a j (h .0) (h .1))) k;
+        (λ e. let h = there n K a j .0 e in
+        ap register (record-register n K b len i own (recordFields s f) a j (h .0) (h .1))) k;
   }
 
   pub view-put-register : (a : Array) (r : Register Figure) → InBoard K a → FitsRegister r

@@ -1,17 +1,18 @@
 -- Laying makes a sound board, and every call keeps one, accepted or refused, reached from a fresh board or not.
 -- Relies on Fresh, Keeps, StepKeeps and Refusals; the laws of runs and lists of calls rely on it.
 use Rattle.model.proofs.Kit.{_≡_, refl, sym, subst, _∙_, List, none, some, ℕ, _-_, _<_, lit<, length, arith}
+use Rattle.model.specs.declared.Record.{Record}
 use Rattle.model.specs.Bytes.{byte}
 use Rattle.model.specs.Figure.{Figure}
 use Rattle.model.specs.Listing.{Register, Array, Stage, writing, reading, has-decided, is-spent, Station, idle}
 use Rattle.model.specs.Listing.{active, array, entry, refused, proposed}
 use Rattle.model.specs.Layout.{boardLength, freshBoard, recordOf, stationOf}
 use Rattle.model.specs.Sound.{ownWritten, ownPassed}
-use Rattle.model.specs.Calls.{stations, islands, stationAt, lay, putStation, propose, notGoing, access, stepped}
+use Rattle.model.specs.Calls.{stations, islands, stationAt, lay, putRecord, propose, notGoing, access, stepped}
 use Rattle.model.specs.Calls.{stepOn, step, putRegister}
 use Rattle.model.proofs.Board.Places.{InBoard}
 use Rattle.model.proofs.Board.Codec.{Fits, FitsStation, FitsStage}
-use Rattle.model.proofs.Board.Boards.{station-head, register-head, register-length}
+use Rattle.model.proofs.Board.Boards.{record-head, register-head, register-length}
 use Rattle.model.proofs.Board.Good.{GoodStation, GoodStage}
 use Rattle.model.proofs.Calls.Access.{write-bytes, read-bytes}
 use Rattle.model.proofs.Board.SoundFacts.{SoundBoard}
@@ -63,7 +64,7 @@ good-stage n K v s h = h
 
 -- A record of station index i that is put in leaves this as it was, and so does a register of it on the board b.
 pub record Leaves {X : Type 0} (of : List ℕ → X) (n K i : ℕ) (b : List ℕ) : Type 0 where
-  pub station : (d : List ℕ) → length d ≡ boardLength n K → (z : Station Figure) → of (putStation n K i z d) ≡ of d
+  pub record-put : (d : List ℕ) → length d ≡ boardLength n K → (f : Record) → of (putRecord n K i f d) ≡ of d
   pub register : (a : Array) → InBoard K a → (r : Register Figure) → of (putRegister n a i (some r) b) ≡ of b
 
 -- Then an accepted step leaves it.
@@ -74,9 +75,9 @@ module _ {X : Type 0} (of : List ℕ → X) (n K : ℕ) (b : List ℕ) (len : le
   access-leaves v (writing t c x) g h =
       let inside = array-inside K t c g in
       rw (write-bytes n K i v b t c x)
-      (leaves .station _ (register-length n K b len (array t c) inside i own (entry t c x)) _
+      (leaves .record-put _ (register-length n K b len (array t c) inside i own (entry t c x)) _
       ∙ leaves .register (array t c) inside (entry t c x))
-  access-leaves v (reading t c x p a) g h = rw (read-bytes n K i v b t c x p a) (leaves .station b len _)
+  access-leaves v (reading t c x p a) g h = rw (read-bytes n K i v b t c x p a) (leaves .record-put b len _)
   access-leaves v (has-decided c x) g h = absurd h
   access-leaves v (is-spent c x) g h = absurd h
 
@@ -99,7 +100,7 @@ stepOn-leaves of i b h leaves =
 stepOn-head : (i : ℕ) (b : List ℕ) → Board b → (k : ℕ) → k < 8 → byte (stepOn i b .bytes) k ≡ byte b k
 stepOn-head i b h k l =
     stepOn-leaves (λ d. byte d k) i b h (λ own. record {
-      station = λ d len z. station-head _ _ d len (i - 1) own z k l;
+      record-put = λ d len f. record-head _ _ d len (i - 1) own f k l;
       register = λ a inside r. register-head _ _ b (h .sound-board .len) a inside (i - 1) own r k l;
     })
 
@@ -112,7 +113,7 @@ unfolding propose
 propose-head i v b h k l =
     call-case (λ a. byte (a .bytes) k ≡ byte b k) _ some b _
     (λ e. let own = index-inside i b (station-of i b _ (board-of b _ e .1) .0) in
-    station-head _ _ b (h .sound-board .len) (i - 1) own (proposed v) k l)
+    record-head _ _ b (h .sound-board .len) (i - 1) own _ k l)
     (λ j e. refl)
 
 -- ---- proposing
@@ -126,13 +127,13 @@ unfolding proposed FitsStation FitsStage
 proposed-fits v h = (h, h)
 
 pub propose-keeps : (i : ℕ) (v : Figure) → Fits v → (b : List ℕ) → Board b → Board (propose i v b .bytes)
-unfolding propose
+unfolding propose proposed
 propose-keeps i v fits b h =
     board-again b (propose i v b .bytes) h (propose-head i v b h)
     (call-case (λ a. SoundBoard (stations b) (islands b) (a .bytes)) _ some b _
     (λ e. let own = index-inside i b (station-of i b _ (board-of b _ e .1) .0) in
     let positive : 0 < islands b = omega (arith, h .shape .islands-low) in
-    station-keeps (i - 1) _ _ b (sound-but (i - 1) _ _ b (h .sound-board)) own positive (proposed v)
+    station-keeps (i - 1) _ _ b (sound-but (i - 1) _ _ b (h .sound-board)) own positive v _ _
     (proposed-fits v fits) (proposed-sound _ _ (i - 1) b v positive))
     (λ k e. h .sound-board))
 

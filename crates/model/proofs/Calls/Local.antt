@@ -5,12 +5,12 @@ use Rattle.model.proofs.Kit.{_≡_, refl, sym, ap, _&&_, List, [], _∷
 use Rattle.model.specs.Figure.{Figure, figures}
 use Rattle.model.specs.Listing.{Stage, writing, reading, has-decided, is-spent, Station, idle, active, Answer}
 use Rattle.model.specs.Listing.{refused, wrote, nothing, entry, array, move, stay, placeArray, placeColumn}
-use Rattle.model.specs.Layout.{registerAt, recordAt, registerOf, recordOf, stationOf}
+use Rattle.model.specs.Layout.{registerAt, recordAt, registerOf, recordOf, fieldsOf, stationOf}
 use Rattle.model.specs.Calls.{After, Refusal, unless, stations, islands, stationRefusal, stationAt, unlessRefused}
-use Rattle.model.specs.Calls.{putStation, putRegister, notGoing, access, stepped, stepOn, step}
+use Rattle.model.specs.Calls.{putRecord, putRegister, notGoing, access, stepped, stepOn, step}
 use Rattle.model.specs.Claims.{Change, change, Effect, apply, touched, ReadsNext}
 use Rattle.model.proofs.Board.Codec.{registerBytes, recordBytes, station}
-use Rattle.model.proofs.Board.Boards.{station-other, register-record}
+use Rattle.model.proofs.Board.Boards.{record-other, register-record}
 use Rattle.model.proofs.Listing.Written.{read-writes}
 use Rattle.model.proofs.Calls.CallsKeep.{stepOn-leaves}
 use Rattle.model.proofs.Calls.Refusals.{Board, step-on}
@@ -23,26 +23,27 @@ OneEffect b d x y = (e : Effect) × (x ≡ apply e b) × (y ≡ apply e d)
 abbrev at : ℕ → List ℕ → Change
 at o bs = record { offset = o; content = bs }
 
-abbrev own : (n K i : ℕ) → Figure → Stage Figure → Change
-own n K i v s = at (recordAt n K i) (recordBytes (active v s))
+abbrev own : (n K i : ℕ) → Figure → Stage Figure → List ℕ → Change
+own n K i v s b = at (recordAt n K i) (recordBytes (active v s) (fieldsOf n K i b))
 
--- a step by the station's record z, where both boards have one register at its place
-stepped-one : (n K i : ℕ) (z : Station Figure) (b d : List ℕ) → (ReadsNext z → touched n i z b ≡ touched n i z d)
+-- a step by the station's record, where both boards have that record, and one register at its place
+stepped-one : (n K i : ℕ) (z : Station Figure) (b d : List ℕ) → recordOf n K i b ≡ recordOf n K i d
+    → (ReadsNext z → touched n i z b ≡ touched n i z d)
     → OneEffect b d (stepped n K i z b) (stepped n K i z d)
-unfolding stepped access apply change touched ReadsNext placeArray placeColumn putStation putRegister
-stepped-one n K i idle b d e = (record { answer = refused 14; changes = [] }, refl, refl)
-stepped-one n K i (active v (writing t c x)) b d e =
+unfolding stepped access apply change touched ReadsNext placeArray placeColumn putRecord putRegister
+stepped-one n K i idle b d q e = (record { answer = refused 14; changes = [] }, refl, refl)
+stepped-one n K i (active v (writing t c x)) b d q e =
     let written = at (registerAt n (array t c) i) (registerBytes (entry t c x)) in
     unfold move in
-    (record { answer = wrote; changes = written ∷ own n K i v (reading t c x 0 nothing) ∷ [] }, refl, refl)
-stepped-one n K i (active v (reading t c x p a)) b d e =
+    (record { answer = wrote; changes = written ∷ own n K i v (reading t c x 0 nothing) b ∷ [] }, refl, rw (← q))
+stepped-one n K i (active v (reading t c x p a)) b d q e =
     let m = move figures n K (reading t c x p a) (registerOf n (array t c) p b) in
     let unwritten = read-writes K figures n t c x p a (registerOf n (array t c) p b) in
-    (record { answer = m .answer; changes = own n K i v (m .stage) ∷ [] }, rw unwritten, rw (← e tt, unwritten))
-stepped-one n K i (active v (has-decided c x)) b d e =
-    unfold move stay in (record { answer = refused 15; changes = own n K i v (has-decided c x) ∷ [] }, refl, refl)
-stepped-one n K i (active v (is-spent c x)) b d e =
-    unfold move stay in (record { answer = refused 16; changes = own n K i v (is-spent c x) ∷ [] }, refl, refl)
+    (record { answer = m .answer; changes = own n K i v (m .stage) b ∷ [] }, rw unwritten, rw (← q, ← e tt, unwritten))
+stepped-one n K i (active v (has-decided c x)) b d q e =
+    unfold move stay in (record { answer = refused 15; changes = own n K i v (has-decided c x) b ∷ [] }, refl, rw (← q))
+stepped-one n K i (active v (is-spent c x)) b d q e =
+    unfold move stay in (record { answer = refused 16; changes = own n K i v (is-spent c x) b ∷ [] }, refl, rw (← q))
 
 -- a checked step: its refusal, or what it does
 checked-one : (r : Refusal) (b d : List ℕ) (x y : After (Answer Figure)) → OneEffect b d x y
@@ -69,7 +70,7 @@ unfolding stationOf
 local n K i b d hb hd bn dn bK dK er eg =
     let z = stationOf n K (i - 1) b in
     rw (step-as n K i b z hb bn bK refl, step-as n K i d z hd dn dK (ap station (sym er)))
-    (checked-one _ b d _ _ (stepped-one n K (i - 1) z b d eg))
+    (checked-one _ b d _ _ (stepped-one n K (i - 1) z b d er eg))
 
 -- ---- no other station's record is touched
 
@@ -77,6 +78,6 @@ pub step-other : (i : ℕ) (b : List ℕ) → Board b → (j : ℕ) → j < stat
     → recordOf (stations b) (islands b) j (step i b .bytes) ≡ recordOf (stations b) (islands b) j b
 step-other i b h j l f =
     rw (step-on i b h) (stepOn-leaves (recordOf (stations b) (islands b) j) i b h (λ own. record {
-      station = λ d len z. station-other _ _ d len (i - 1) own z j l f;
+      record-put = λ d len g. record-other _ _ d len (i - 1) own g j l f;
       register = λ a inside r. register-record _ _ b (h .sound-board .len) a inside (i - 1) own r j l;
     }))

@@ -90,7 +90,7 @@ module _ (n K : ℕ) (b : List ℕ) (q : SoundBoard n K b) (hK : 0 < K) (i : ℕ
         (station-keeps i n K between
         (register-keeps i n K b (sound-but i n K b q) (array t c) inside own (entry t c x)
         (true-T _ (entry-sound K t c x (g .good))))
-        own hK (active v (reading t c x 0 nothing)) (fits .0, (fits .1, tt)) begun)
+        own hK v (reading t c x 0 nothing) _ (fits .0, (fits .1, tt)) begun)
 
   -- a read: the record alone is put in
   module _ (t : Turn) (c : ℕ) (x : Figure) (p : ℕ) (a : Seen Figure) (fits : FitsStation (active v (reading t c x p a)))
@@ -140,7 +140,7 @@ module _ (n K : ℕ) (b : List ℕ) (q : SoundBoard n K b) (hK : 0 < K) (i : ℕ
     unfolding moved met FitsStation placeArray placeColumn
     read-keeps =
         subst⁻¹ (SoundBoard n K) (read-bytes n K i v b t c x p a)
-        (station-keeps i n K b (sound-but i n K b q) own hK (active v (moved .stage))
+        (station-keeps i n K b (sound-but i n K b q) own hK v (moved .stage) _
         (fits .0, move-fits n K (reading t c x p a) met (fits .1) (readable n K b q i own v (reading t c x p a) g))
         gone-on)
 

@@ -1,21 +1,21 @@
 -- A record of a board by the tests that the code makes: the bytes without a field, the fields, the own register.
 -- Relies on the layout, the model's laws of a record's parts and codec's of reads; the proofs of records rely on it.
-use Rattle.model.proofs.Kit.{_≡_, sym, ap, subst, _∙_, Bool, true, false, _&&_, List, [], _∷_, _++_, ℕ, suc, _+_, _≤_}
-use Rattle.model.proofs.Kit.{_<_, le-ltb, lit<, T, lit≤, length, w8, w64, Fits, mul-le-mul, lt-of-not-le, arith}
+use Rattle.model.proofs.Kit.{_≡_, sym, ap, subst, _∙_, Bool, true, false, _&&_, List, [], _∷_, ℕ, suc, _+_, _≤_}
+use Rattle.model.proofs.Kit.{_<_, le-ltb, lit≤, length, w8, w64, Fits, mul-le-mul, lt-of-not-le, arith}
 use native.Mathlib.Decide.{decLe}
 use Rattle.model.specs.declared.Record.{Record}
 use Rattle.model.specs.Bytes.{byte, part, zeros}
-use Rattle.model.specs.Figure.{figure, figureBytes}
-use Rattle.model.specs.Layout.{boardLength, recordAt, recordOf, readRecord, layRecord, recordValue}
+use Rattle.model.specs.Layout.{boardLength, recordAt, recordOf, readRecord, layRecord, recordValue, gapAt, gap}
+use Rattle.model.specs.Layout.{tailAt, tail}
 use Rattle.model.specs.Sound.{phaseKnown, positionInside, islandInside, bestInside, flagKnown, restZero, idleZero}
 use Rattle.model.specs.Sound.{collectZero, bestIslandZero, bestZero, seenKnown}
 use Rattle.model.specs.Sound.{fieldsSound, ownWritten, ownPassed, recordSound}
 use Rattle.model.proofs.Board.Codec.{station}
 use Rattle.model.proofs.Basics.Numbers.{Bytes}
-use Rattle.model.proofs.Basics.Tests.{and-false, true-T}
-use Rattle.model.proofs.Basics.Parts.{part-Bytes, part-zeros, zero-at}
+use Rattle.model.proofs.Basics.Tests.{and-false, and-i, true-T}
+use Rattle.model.proofs.Basics.Parts.{part-Bytes}
 use Rattle.model.proofs.Basics.Splices.{length-part}
-use Rattle.model.proofs.Board.Canon.{record-parts, figure-at}
+use Rattle.model.proofs.Board.Canon.{laid-fields}
 use Rattle.model.proofs.Board.Places.{record-inside}
 use Rattle.codec.proofs.Laws.Reads.{part-part}
 
@@ -61,22 +61,6 @@ unfolding Bytes
 all-bytes [] h = tt
 all-bytes (x ∷ xs) h = (h 0 .fits, all-bytes xs (λ j. h (suc j)))
 
--- a record whose bytes without a field are zero is what its fields lay
-module _ (r : List ℕ) (e : length r ≡ 24) (bytes : Bytes r) (pair : T (zeros (part 6 2 r)))
-    (word : T (zeros (part 20 4 r))) where
-  from-figure : (at : ℕ) → at + 4 ≤ 24 → part at 4 r ≡ figureBytes (figure (part at 4 r))
-  from-figure at h = sym (figure-at r e bytes at h)
-
-  laid : r ≡ layRecord (readRecord r)
-  unfolding layRecord readRecord
-  laid =
-      record-parts r e bytes
-      ∙ (λ i.
-      (byte r 0 ∷ byte r 1 ∷ byte r 2 ∷ byte r 3 ∷ byte r 4 ∷ byte r 5 ∷ zero-at 6 2 r (omega arith) pair 0 (lit< tt) i
-      ∷ zero-at 6 2 r (omega arith) pair 1 (lit< tt) i ∷ [])
-      ++ from-figure 8 (lit≤ tt) i ++ from-figure 12 (lit≤ tt) i ++ from-figure 16 (lit≤ tt) i
-      ++ part-zeros 20 4 r (omega arith) word i)
-
 -- ---- the record of station index i, which stands at `at`
 pub record Placed (n k i at : ℕ) (b : List ℕ) : Type 0 where
   pub len : length b ≡ boardLength n k
@@ -98,33 +82,36 @@ module _ {n k i at : ℕ} {b : List ℕ} (p : Placed n k i at b) where
       ap (λ (x : Bool). x && ownWritten n i b (station (recordOf n k i b)) && ownPassed i (station (recordOf n k i b)))
       (sym q)
 
-  pair-is : zeros (part (at + 6) 2 b) ≡ zeros (part 6 2 (recordOf n k i b))
-  pair-is = ap zeros (part-part at 24 6 2 b record-place (lit≤ tt) ∙ ap (part 6 2) here)
-
-  word-is : zeros (part (at + 20) 4 b) ≡ zeros (part 20 4 (recordOf n k i b))
-  word-is = ap zeros (part-part at 24 20 4 b record-place (lit≤ tt) ∙ ap (part 20 4) here)
+  zeros-in : (o len : ℕ) → o + len ≤ 24 → zeros (part (at + o) len b) ≡ zeros (part o len (recordOf n k i b))
+  zeros-in o len h = ap zeros (part-part at 24 o len b record-place h ∙ ap (part o len) here)
 
   rest : restZero (byte (recordOf n k i b) 0) (recordOf n k i b) ≡ false
       → false ≡ recordSound n k i b (recordOf n k i b)
   rest q = fails (sym (fields-rest n k (byte (recordOf n k i b) 0) (recordOf n k i b) q))
 
-  pub pair-fails : zeros (part (at + 6) 2 b) ≡ false → false ≡ recordSound n k i b (recordOf n k i b)
+  pub gap-fails : zeros (part (at + gapAt) gap b) ≡ false → false ≡ recordSound n k i b (recordOf n k i b)
   unfolding restZero
-  pair-fails q = rest (ap (λ (x : Bool). x && zeros (part 20 4 (recordOf n k i b))) (sym pair-is ∙ q))
+  gap-fails q =
+      rest (ap (λ (x : Bool). x && zeros (part tailAt tail (recordOf n k i b)))
+      (sym (zeros-in gapAt gap (lit≤ tt)) ∙ q))
 
-  pub word-fails : zeros (part (at + 20) 4 b) ≡ false → false ≡ recordSound n k i b (recordOf n k i b)
+  pub tail-fails : zeros (part (at + tailAt) tail b) ≡ false → false ≡ recordSound n k i b (recordOf n k i b)
   unfolding restZero
-  word-fails q =
-      rest (ap (λ (x : Bool). zeros (part 6 2 (recordOf n k i b)) && x) (sym word-is ∙ q)
-      ∙ and-false (zeros (part 6 2 (recordOf n k i b))))
+  tail-fails q =
+      rest (ap (λ (x : Bool). zeros (part gapAt gap (recordOf n k i b)) && x)
+      (sym (zeros-in tailAt tail (lit≤ tt)) ∙ q)
+      ∙ and-false (zeros (part gapAt gap (recordOf n k i b))))
 
   module _ (bytes : (j : ℕ) → Fits w8 (byte b j)) (f : Record) (read : f ≡ readRecord (part at 24 b)) where
-    module _ (pair : zeros (part (at + 6) 2 b) ≡ true) (word : zeros (part (at + 20) 4 b) ≡ true) where
+    module _ (front : zeros (part (at + gapAt) gap b) ≡ true) (back : zeros (part (at + tailAt) tail b) ≡ true) where
       whole : recordOf n k i b ≡ layRecord f
+      unfolding restZero
       whole =
-          laid (recordOf n k i b) (ap length (sym here) ∙ length-part at 24 b record-place)
-          (subst Bytes here (part-Bytes at 24 b (all-bytes b bytes))) (true-T _ (sym pair-is ∙ pair))
-          (true-T _ (sym word-is ∙ word))
+          sym (laid-fields (recordOf n k i b) (ap length (sym here) ∙ length-part at 24 b record-place)
+          (subst Bytes here (part-Bytes at 24 b (all-bytes b bytes)))
+          (and-i (zeros (part gapAt gap (recordOf n k i b))) (zeros (part tailAt tail (recordOf n k i b)))
+          (true-T _ (sym (zeros-in gapAt gap (lit≤ tt)) ∙ front))
+          (true-T _ (sym (zeros-in tailAt tail (lit≤ tt)) ∙ back))))
           ∙ ap layRecord (ap readRecord (sym here) ∙ sym read)
 
       fields-is : fieldsSound n k (f .phase) (layRecord f)

@@ -7,10 +7,11 @@ use Rattle.model.specs.declared.Register as Fields
 use Rattle.model.specs.Bytes.{part, splice, digits}
 use Rattle.model.specs.Figure.{Figure, figures, figureBytes}
 use Rattle.model.specs.Listing.{Turn, turnM, turnA, turnB, Register, Stage, writing, reading, has-decided, is-spent}
-use Rattle.model.specs.Listing.{active, move, placeArray, placeColumn}
+use Rattle.model.specs.Listing.{Station, active, move, placeArray, placeColumn}
 use Rattle.model.specs.Layout.{registerAt, recordAt, readRegister, layRegister, registerValue, layRecord, recordFields}
-use Rattle.model.specs.Layout.{recordValue, writingOf, readingOf, ofPhase, registerOf, putChanges}
-use Rattle.model.specs.Calls.{putStation, access}
+use Rattle.model.specs.Layout.{recordValue, writingOf, readingOf, ofPhase, registerOf, recordOf, fieldsOf, readRecord}
+use Rattle.model.specs.Layout.{putChanges}
+use Rattle.model.specs.Calls.{putRecord, access}
 use Rattle.model.proofs.Board.Codec.{register}
 use Rattle.model.proofs.Basics.Tests.{clash}
 use Rattle.model.proofs.Basics.Splices.{length-splice, part-after}
@@ -22,7 +23,7 @@ use Rattle.model.proofs.Board.Changes.{put-back}
 use Rattle.codec.specs.Parts.{phasePart, collectedPart, startedPart}
 use Rattle.archipelago.specs.declared.Moved.{Moved}
 use Rattle.archipelago.specs.Advanced.{Ready, Written, Advanced, Moves}
-use Rattle.stepping.specs.Stepped.{Touches, Accesses, OnSize}
+use Rattle.stepping.specs.Stepped.{Touches, Accesses, OnSize, Stands}
 use Rattle.stepping.proofs.Laws.Ready.{put-written, put-nothing}
 use Rattle.stepping.proofs.Laws.Putting.{write-changes, read-changes, move-changes}
 
@@ -100,13 +101,13 @@ record-fits-after n K j f b e place at r h z t q p =
 
 module _ (n K j : ℕ) (f : Record) (b : List ℕ) (place at : ℕ) (g : Fields.Register) (m : Moved) (h : Ready n K f)
     (z : OnSize n K j b)
-    (t : Touches n j f place) (eg : g ≡ readRegister (part place 8 b)) (a : Moves n K f g m) (ea : at ≡ recordAt n K j)
-    (w : part at 24 b ≡ layRecord f) where
+    (t : Touches n j f place) (eg : g ≡ readRegister (part place 8 b)) (a : Moves n K f g m)
+    (o : Stands n K j at f b) where
   moved : (s : Stage Figure) → recordValue f ≡ active (f .proposal) s
-      → Advanced (f .proposal) (move figures n K s (registerOf n (placeArray s) (placeColumn j s) b)) m
+      → Advanced f (move figures n K s (registerOf n (placeArray s) (placeColumn j s) b)) m
   unfolding Moves Touches registerOf
   moved s e =
-      subst (λ (r : Register Figure). Advanced (f .proposal) (move figures n K s r) m)
+      subst (λ (r : Register Figure). Advanced f (move figures n K s r) m)
       (ap registerValue eg ∙ ap (λ (k : ℕ). registerValue (readRegister (part k 8 b))) (t s e)) (a (f .proposal) s e)
 
   -- only a write writes, and it writes the station's own register
@@ -120,33 +121,41 @@ module _ (n K j : ℕ) (f : Record) (b : List ℕ) (place at : ℕ) (g : Fields.
   own-column (has-decided c x) w q = refl
   own-column (is-spent c x) w q = refl
 
+  -- the record that the move leaves, over the one that stands on the board
+  left : (s : Stage Figure) → Advanced f (move figures n K s (registerOf n (placeArray s) (placeColumn j s) b)) m
+      → m .station ≡ recordFields (active (f .proposal)
+      (move figures n K s (registerOf n (placeArray s) (placeColumn j s) b) .stage)) (fieldsOf n K j b)
+  unfolding recordOf
+  left s v =
+      v .station ∙ ap (recordFields _) (o .read ∙ ap (λ (k : ℕ). readRecord (part k 24 b)) (o .place))
+
   -- the whole record put back, after a write and after a read
   put-writing : (e d : List ℕ) → m .writes ≡ true → e ≡ splice place (layRegister (m .register)) b
       → d ≡ splice at (layRecord (m .station)) e
       → Accesses n K j f b (m .answer) d
-  unfolding Accesses Touches access putStation
+  unfolding Accesses Touches access putRecord
   put-writing e d q ee ed s es =
       let v = moved s es in
       let col = own-column s (v .written) q in
       let put = ee ∙ ap (λ (k : ℕ). splice k (layRegister (m .register)) b)
       (t s es ∙ ap (registerAt n (placeArray s)) col)
       ∙ sym (put-written n (placeArray s) j b m _ (v .written) q) in
-      (v .answer, ed ∙ (λ i. splice (ea i) (layRecord (v .station i)) (put i)))
+      (v .answer, ed ∙ (λ i. splice (o .place i) (layRecord (left s v i)) (put i)))
 
   put-reading : (d : List ℕ) → m .writes ≡ false → d ≡ splice at (layRecord (m .station)) b
       → Accesses n K j f b (m .answer) d
-  unfolding Accesses Touches access putStation
+  unfolding Accesses Touches access putRecord
   put-reading d q ed s es =
       let v = moved s es in
       let put = sym (put-nothing n (placeArray s) j b m _ (v .written) q) in
-      (v .answer, ed ∙ (λ i. splice (ea i) (layRecord (v .station i)) (put i)))
+      (v .answer, ed ∙ (λ i. splice (o .place i) (layRecord (left s v i)) (put i)))
 
   here : Standing n K j f
   here = standing n K j f h (z .own)
 
   -- the record by the fields of its stage
-  laid : f ≡ recordFields (active (f .proposal) (here .stage))
-  laid = sym (h .whole) ∙ ap recordFields (here .stands)
+  laid : f ≡ recordFields (active (f .proposal) (here .stage)) f
+  laid = sym (h .whole) ∙ ap (λ (s : Station Figure). recordFields s f) (here .stands)
 
   -- a register stands before the records, so a write to it leaves the record
   beside : (r : Fields.Register) (e : List ℕ) → e ≡ splice place (layRegister r) b → part at 24 e ≡ layRecord f
@@ -157,28 +166,28 @@ module _ (n K j : ℕ) (f : Record) (b : List ℕ) (place at : ℕ) (g : Fields.
       let there = t (here .stage) (here .stands) in
       ap (part at 24) q
       ∙ part-after place (layRegister r) b (place-fits n K j f b place h z t) at 24 (omega arith)
-      (record-fits n K j b at z ea) ∙ w
+      (record-fits n K j b at z (o .place)) ∙ o .laid
 
   -- only the part that changed put back: over the rest, which stands there, it makes the whole record
   pub accessed-writing : (e d : List ℕ) → m .writes ≡ true → e ≡ splice place (layRegister (m .register)) b
       → d ≡ putChanges (phasePart (m .station)) at e → Accesses n K j f b (m .answer) d
   accessed-writing e d q ee ed =
       put-writing e d q ee
-      (ed ∙ put-back at e (record-fits-after n K j f b e place at (m .register) h z t ea ee) _ f _
+      (ed ∙ put-back at e (record-fits-after n K j f b e place at (m .register) h z t (o .place) ee) _ f _
       (beside (m .register) e ee)
-      (write-changes n K (f .proposal) f _ m (here .stage) laid (moved (here .stage) (here .stands)) q))
+      (write-changes n K f _ m (here .stage) laid (moved (here .stage) (here .stands)) q))
 
   pub accessed-ending : (d : List ℕ) → m .writes ≡ false → d ≡ putChanges (startedPart (m .station)) at b
       → Accesses n K j f b (m .answer) d
   accessed-ending d q ed =
       put-reading d q
-      (ed ∙ put-back at b (record-fits n K j b at z ea) _ f _ w
-      (move-changes n K (f .proposal) f _ m (here .stage) laid (moved (here .stage) (here .stands))))
+      (ed ∙ put-back at b (record-fits n K j b at z (o .place)) _ f _ (o .laid)
+      (move-changes n K f _ m (here .stage) (moved (here .stage) (here .stands))))
 
   pub accessed-collecting : (d : List ℕ) → m .writes ≡ false → (m .station .position ≡ 0 → ⊥)
       → d ≡ putChanges (collectedPart (m .station)) at b
       → Accesses n K j f b (m .answer) d
   accessed-collecting d q l ed =
       put-reading d q
-      (ed ∙ put-back at b (record-fits n K j b at z ea) _ f _ w
-      (read-changes n K (f .proposal) f _ m (here .stage) laid (moved (here .stage) (here .stands)) q l))
+      (ed ∙ put-back at b (record-fits n K j b at z (o .place)) _ f _ (o .laid)
+      (read-changes n K f _ m (here .stage) laid (moved (here .stage) (here .stands)) q l))

@@ -16,24 +16,27 @@ use Rattle.archipelago.specs.Advanced.{Written, Advanced}
 
 -- ---- a collect that has ended leaves the station at position 0
 
-module _ (K : ℕ) (v : Figure) where
+module _ (K : ℕ) (v : Figure) (f : Record) where
   abbrev Rests : Move Figure → Type 0
-  Rests m = recordFields (active v (m .stage)) .position ≡ 0
+  Rests m = recordFields (active v (m .stage)) f .position ≡ 0
 
   ended-rests : (t : Turn) (c : ℕ) (x : Figure) (a : Seen Figure) → Rests (ended K t c x a)
-  unfolding stay recordFields fields
+  unfolding stay recordFields fields changed
   ended-rests t c x a = ended-case K Rests c t x a (search)
 
 -- ---- the record f of a station at stage s, and the record that a move leaves
 
-module _ (n K : ℕ) (v : Figure) (f : Record) (g : Register Figure) (m : Moved) where
+module _ (n K : ℕ) (f : Record) (g : Register Figure) (m : Moved) where
+  -- the record is that of its station at stage s
+  abbrev Of : Stage Figure → Type 0
+  Of s = f ≡ recordFields (active (f .proposal) s) f
+
   -- fields changed in f, where they are changed in an equal record
   over : (part : Record → List Change) (p q : Record) → f ≡ p → m .station ≡ q → changed (part q) p ≡ q
       → changed (part (m .station)) f ≡ m .station
   over part p q ep eq h = (λ i. changed (part (eq i)) (ep i)) ∙ h ∙ sym eq
 
-  pub write-changes : (s : Stage Figure) → f ≡ recordFields (active v s) → Advanced v (move figures n K s g) m
-      → m .writes ≡ true
+  pub write-changes : (s : Stage Figure) → Of s → Advanced f (move figures n K s g) m → m .writes ≡ true
       → changed (phasePart (m .station)) f ≡ m .station
   unfolding move stay Written recordFields fields changed phasePart
   write-changes (writing t c x) e a w = over phasePart _ _ e (a .station) refl
@@ -43,29 +46,29 @@ module _ (n K : ℕ) (v : Figure) (f : Record) (g : Register Figure) (m : Moved)
   write-changes (has-decided c x) e a w = clash (sym w ∙ a .written)
   write-changes (is-spent c x) e a w = clash (sym w ∙ a .written)
 
-  pub read-changes : (s : Stage Figure) → f ≡ recordFields (active v s) → Advanced v (move figures n K s g) m
-      → m .writes ≡ false
+  pub read-changes : (s : Stage Figure) → Of s → Advanced f (move figures n K s g) m → m .writes ≡ false
       → (m .station .position ≡ 0 → ⊥) → changed (collectedPart (m .station)) f ≡ m .station
   unfolding move stay Written recordFields fields changed collectedPart
   read-changes (writing t c x) e a w l = clash (sym (a .written .0) ∙ w)
   read-changes (reading t c x p r) e a w l =
-      cond-case (λ (z : Move Figure). Advanced v z m → changed (collectedPart (m .station)) f ≡ m .station)
+      cond-case (λ (z : Move Figure). Advanced f z m → changed (collectedPart (m .station)) f ≡ m .station)
       (ltb (p + 1) n) _ _
       (λ b o. over collectedPart _ _ e (o .station) refl)
-      (λ b o. absurd (l (ap (λ (z : Record). z .position) (o .station) ∙ ended-rests K v t c x (see figures t r g)))) a
+      (λ b o. absurd (l (ap (λ (z : Record). z .position) (o .station)
+      ∙ ended-rests K (f .proposal) f t c x (see figures t r g)))) a
   read-changes (has-decided c x) e a w l = over collectedPart _ _ e (a .station) refl
   read-changes (is-spent c x) e a w l = over collectedPart _ _ e (a .station) refl
 
-  kept : (s : Stage Figure) → recordFields (active v s) .proposal ≡ v
-  unfolding recordFields fields
+  kept : (s : Stage Figure) → recordFields (active (f .proposal) s) f .proposal ≡ f .proposal
+  unfolding recordFields fields changed
   kept (writing t c x) = refl
   kept (reading t c x p r) = refl
   kept (has-decided c x) = refl
   kept (is-spent c x) = refl
 
-  pub move-changes : (s : Stage Figure) → f ≡ recordFields (active v s) → Advanced v (move figures n K s g) m
+  pub move-changes : (s : Stage Figure) → Advanced f (move figures n K s g) m
       → changed (startedPart (m .station)) f ≡ m .station
   unfolding changed startedPart collectedPart
-  move-changes s e a =
+  move-changes s a =
       ap (λ (x : Figure). changed (proposalIs x ∷ []) (m .station))
-      (ap (λ (z : Record). z .proposal) e ∙ kept s ∙ sym (ap (λ (z : Record). z .proposal) (a .station) ∙ kept _))
+      (sym (ap (λ (z : Record). z .proposal) (a .station) ∙ kept _))

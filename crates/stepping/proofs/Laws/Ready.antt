@@ -10,20 +10,17 @@ use Rattle.model.specs.Layout.{readRecord, layRegister, registerAt}
 use Rattle.model.specs.Calls.{putRegister}
 use Rattle.model.specs.Sound.{fieldsSound}
 use Rattle.model.proofs.Basics.Tests.{clash}
-use Rattle.model.proofs.Basics.Numbers.{Bytes}
-use Rattle.model.proofs.Board.Codec.{station, record-back}
-use Rattle.model.proofs.Board.Values.{station-Fits}
 use Rattle.model.proofs.Board.Good.{position-fact, island-fact}
-use Rattle.model.proofs.Board.Canon.{bytes-station}
+use Rattle.model.proofs.Board.Canon.{fields-station}
 use Rattle.archipelago.specs.declared.Moved.{Moved}
 use Rattle.archipelago.specs.Advanced.{Ready, Written}
 
-pub ready : (n K : ℕ) (r : List ℕ) → T (fieldsSound n K (byte r 0) r) → length r ≡ 24 → Bytes r → 1 ≤ byte r 0
+pub ready : (n K : ℕ) (r : List ℕ) → T (fieldsSound n K (byte r 0) r) → length r ≡ 24 → 1 ≤ byte r 0
     → byte r 0 ≤ 6
     → Ready n K (readRecord r)
 unfolding readRecord
-ready n K r t e b l h = record {
-  whole = sym (record-back (station r) (station-Fits r)) ∙ ap readRecord (bytes-station n K r e b t);
+ready n K r t e l h = record {
+  whole = fields-station n K r e t;
   begun = l;
   going = h;
   position = position-fact n K _ r t;

@@ -8,7 +8,7 @@ use Rattle.model.specs.declared.StepAnswer.the-variants.{Refused}
 use Rattle.model.specs.Bytes.{byte, part}
 use Rattle.model.specs.Figure.{Figure}
 use Rattle.model.specs.Listing.{Station, idle, active, has-decided, is-spent, Answer, refused}
-use Rattle.model.specs.Layout.{recordAt, readRecord, layRecord, recordFields, ofPhase, recordValue, recordOf}
+use Rattle.model.specs.Layout.{readRecord, layRecord, ofPhase, recordValue, recordOf}
 use Rattle.model.specs.Sound.{fieldsSound, recordSound}
 use Rattle.model.specs.Calls.{After, Refusal, stations, islands, boardRefusal, stationRefusal, stationAt, unlessRefused}
 use Rattle.model.specs.Calls.{notGoing, stepped, stepOn}
@@ -17,7 +17,7 @@ use Rattle.model.proofs.Basics.Tests.{and-l, and-r}
 use Rattle.model.proofs.Basics.Numbers.{Bytes}
 use Rattle.model.proofs.Basics.Splices.{length-part}
 use Rattle.model.proofs.Basics.Parts.{part-Bytes}
-use Rattle.model.proofs.Board.Canon.{bytes-station}
+use Rattle.model.proofs.Board.Canon.{bytes-record}
 use Rattle.model.proofs.Calls.Refusals.{board-of, OnBoard, station-passes}
 use Rattle.model.proofs.Calls.Accepted.{stepOn-access}
 use Rattle.soundness.specs.declared.place.Place.{Place}
@@ -25,7 +25,7 @@ use Rattle.soundness.specs.declared.place.Place.the-variants as places
 use Rattle.soundness.specs.Placed.{On, Placed}
 use Rattle.soundness.proofs.Laws.Placing.{at-place, not-placed, own-value}
 use Rattle.archipelago.specs.Advanced.{Ready}
-use Rattle.stepping.specs.Stepped.{Accesses, OnSize, StepsOn}
+use Rattle.stepping.specs.Stepped.{Accesses, OnSize, Stands, StepsOn}
 use Rattle.stepping.proofs.Laws.Accessing.{standing}
 use Rattle.stepping.proofs.Laws.Ready.{ready}
 
@@ -70,9 +70,6 @@ module _ (i : ℕ) (b : List ℕ) (p : Place) (j at : ℕ) (is : p ≡ places.At
   pub on-size : OnSize (getD b 0 0) (getD b 1 0) j b
   on-size = record { stations = on .stations; islands = on .islands; own = on .own; len = on .len }
 
-  pub own-place : at ≡ recordAt (getD b 0 0) (getD b 1 0) j
-  own-place = on .place
-
   pub fourteen : f .phase ≡ 0 → StepsOn i b (Refused 14) b
   unfolding recordValue ofPhase notGoing
   fourteen p = by-phase idle 14 (ap (λ (k : ℕ). ofPhase k f) p) refl
@@ -107,14 +104,18 @@ module _ (i : ℕ) (b : List ℕ) (p : Place) (j at : ℕ) (is : p ≡ places.At
     unfolding readRecord
     is-ready =
         subst (Ready (getD b 0 0) (getD b 1 0)) (sym e)
-        (ready (getD b 0 0) (getD b 1 0) (part at 24 b) fields (length-part at 24 b (on .inside)) bytes
+        (ready (getD b 0 0) (getD b 1 0) (part at 24 b) fields (length-part at 24 b (on .inside))
         (omega (arith, ap (λ (g : Record). g .phase) e)) (omega (arith, ap (λ (g : Record). g .phase) e)))
 
     -- the bytes that stand there are those of the record: encoding after decoding is the identity on a sound one
-    pub own-bytes : part at 24 b ≡ layRecord f
-    own-bytes =
-        sym (bytes-station (getD b 0 0) (getD b 1 0) _ (length-part at 24 b (on .inside)) bytes fields)
-        ∙ ap (λ (g : Record). layRecord (recordFields (recordValue g))) (sym e) ∙ ap layRecord (is-ready .whole)
+    pub own-record : Stands (getD b 0 0) (getD b 1 0) j at f b
+    own-record = record {
+      place = on .place;
+      read = e;
+      laid =
+          sym (bytes-record (getD b 0 0) (getD b 1 0) _ (length-part at 24 b (on .inside)) bytes fields)
+          ∙ ap layRecord (sym e);
+    }
 
     pub accepted : (r : StepAnswer) (d : List ℕ) → Accesses (getD b 0 0) (getD b 1 0) j f b r d → StepsOn i b r d
     unfolding Accesses StepsOn stations islands

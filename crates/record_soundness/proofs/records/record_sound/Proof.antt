@@ -1,7 +1,7 @@
 -- `record_sound`: once the bytes without a field are zero, the record is what its fields lay.
 use Rattle.model.proofs.Kit.{needs, arith}
 use Rattle.record_soundness.proofs.Laws.Chains.{no, yes}
-use Rattle.record_soundness.proofs.Laws.Records.{island-inside, record-place, pair-fails, word-fails}
+use Rattle.record_soundness.proofs.Laws.Records.{island-inside, record-place, gap-fails, tail-fails}
 use Rattle.record_soundness.proofs.Laws.Records.{fields-fail, record-form, Placed}
 use Rattle.record_soundness.proofs.records.record_sound.Statement.{statement}
 use Rattle.record_soundness.proofs.records.record_sound.Tie as tie
@@ -16,8 +16,8 @@ own-sound-requires c κs =
 pub record-sound-spec : {M : Type 1} → statement M
 record-sound-spec =
     tie.close (tie.spec (λ c. omega (arith, record-place (placed (search))))
-    (λ c κs. omega (arith, record-place (placed (search)))) (λ c. search (no, placed (search), pair-fails))
+    (λ c κs. omega (arith, record-place (placed (search)))) (λ c. search (no, placed (search), gap-fails))
     (λ c. omega (arith, record-place (placed (search)))) (λ c κs. omega (arith, record-place (placed (search))))
-    (λ c. search (no, placed (search), word-fails)) (λ c κs. record-place (placed (search))) (λ c κs. search needs)
+    (λ c. search (no, placed (search), tail-fails)) (λ c κs. record-place (placed (search))) (λ c κs. search needs)
     (λ c. search (no, yes, placed (search), fields-fail)) own-sound-requires
     (λ c. search (yes, placed (search), record-form)))

@@ -3,7 +3,7 @@
 use Rattle.model.proofs.Kit.{needs, arith}
 use Rattle.soundness.proofs.Laws.Placing.{head-long, place-inside}
 use Rattle.stepping.proofs.Laws.Stepping.{no-station, fourteen, fifteen, sixteen}
-use Rattle.stepping.proofs.Laws.Stepping.{is-ready, on-size, own-place, own-bytes, accepted}
+use Rattle.stepping.proofs.Laws.Stepping.{is-ready, on-size, own-record, accepted}
 use Rattle.stepping.proofs.sound_step.step_on.Statement.{statement}
 use Rattle.stepping.proofs.sound_step.step_on.Tie as tie
 
@@ -12,5 +12,5 @@ step-on-spec =
     tie.close (tie.spec (λ c κs. search needs) (λ c. search needs) (λ c. search needs) (λ c. search needs)
     (λ c. search no-station) (λ c κs. search place-inside) (λ c. search needs) (λ c. search fourteen)
     (λ c. search needs) (λ c. search fifteen) (λ c. search needs) (λ c. search sixteen) (λ c. omega (arith, head-long))
-    (λ c. omega (arith, head-long)) (λ c κs. (search is-ready, search on-size, search own-place, search own-bytes))
+    (λ c. omega (arith, head-long)) (λ c κs. (search is-ready, search on-size, search own-record))
     (λ c. search needs) (λ c. search accepted))
