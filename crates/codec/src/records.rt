@@ -93,7 +93,7 @@ pub fn put_started(board: &mut [u8], at: usize, r: Record)
     requires { ⌜ at + 24 ≤ length (now board) ⌝ }
     ensures { λ _. ⌜ now (board .exit) ≡ putChanges (startedPart r) at (now (board .entry)) ⌝ }
 {
-    put_phase(board, at, r);
+    board[at] = r.phase;
     board[at + 2] = r.island;
     board[at + 5] = r.flag;
     put_figure(board, at + 12, r.carried);

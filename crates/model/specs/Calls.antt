@@ -103,11 +103,16 @@ notGoing (active v (reading t c x p a)) = none
 notGoing (active v (has-decided c x)) = some 15
 notGoing (active v (is-spent c x)) = some 16
 
+-- the record of station index j, with proposal v, that an accepted step brings to stage s
+abbrev pub steppedRecord : (n K j : ℕ) → Figure → Stage Figure → List ℕ → Record
+steppedRecord n K j v s b = recordFields (active v s) (fieldsOf n K j b)
+
 -- what a move m of the station with index j, proposal v and stage s answers and leaves
 abbrev pub putMove : (n K j : ℕ) → Figure → Stage Figure → Move Figure → List ℕ → After (Answer Figure)
-putMove n K j v s m b =
-    let station = recordFields (active v (m .stage)) (fieldsOf n K j b) in
-    record { answer = m .answer; bytes = putRecord n K j station (putRegister n (placeArray s) j (m .written) b) }
+putMove n K j v s m b = record {
+  answer = m .answer;
+  bytes = putRecord n K j (steppedRecord n K j v (m .stage) b) (putRegister n (placeArray s) j (m .written) b);
+}
 
 -- "Each step moves one station on by a single register and touches no other station's record." An accepted step of the
 -- station with index j, proposal v and stage s: the listing's move over the one register at the stage's place.

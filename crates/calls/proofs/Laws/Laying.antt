@@ -6,7 +6,7 @@ use Rattle.model.specs.declared.Verdict.the-variants.{Accepted, Refused}
 use Rattle.model.specs.Layout.{boardLength, freshBoard}
 use Rattle.model.specs.Calls.{Refusal, ranges, shapeRefusal, unlessRefused, lay}
 use Rattle.model.specs.Told.{verdict}
-use Rattle.model.proofs.Calls.Refusals.{Shape, shape-of}
+use Rattle.model.proofs.Calls.Refusals.{Shape, inside-itself, shape-of}
 use Rattle.soundness.specs.Shaped.{numbered, Shaped}
 use Rattle.soundness.proofs.Laws.Verdicts.{refused-by, passed-by}
 
@@ -56,7 +56,7 @@ module _ (n K : ℕ) (b : List ℕ) (s i : Bool) (es : s ≡ ranges .stationsIn 
 
   module _ (e : r ≡ 0) (c : List ℕ) (ec : c ≡ replicate (length b) 0) where
     shape : Shape n K b
-    shape = shape-of n K b none (sym said ∙ passed-by r e) .0
+    shape = shape-of n K b ranges inside-itself none (sym said ∙ passed-by r e) .0
 
     pub first-byte : 0 < length c
     first-byte = omega (arith, ap length ec ∙ length-replicate (length b) 0, shape .long)

@@ -34,9 +34,12 @@ record After (n : ℕ) (p d : List ℕ) : Type 0 where
   is : p ≡ d
 
 module _ (r : Record) (at : ℕ) (b : List ℕ) (h : at + 24 ≤ length b) where
+  first-put : set b at (r .phase) ≡ splice (at + 0) (r .phase ∷ []) b
+  first-put = splice-set at (r .phase) b (omega arith) ∙ ap (λ (k : ℕ). splice k (r .phase ∷ []) b) (sym (add-zero at))
+
   pub phase-put : set b at (r .phase) ≡ putChanges (phasePart r) at b
   unfolding putChanges phasePart
-  phase-put = splice-set at (r .phase) b (omega arith) ∙ ap (λ (k : ℕ). splice k (r .phase ∷ []) b) (sym (add-zero at))
+  phase-put = first-put
 
   then : (i a : ℕ) → i < 24 → {p d : List ℕ} → After (length b) p d
       → After (length b) (set p (at + i) a) (splice (at + i) (a ∷ []) d)
@@ -55,12 +58,13 @@ module _ (r : Record) (at : ℕ) (b : List ℕ) (h : at + 24 ≤ length b) where
       let stores = then 4 (r .highest) (lit< tt) (then 3 (r .seen) (lit< tt) (then 1 (r .position) (lit< tt) start)) in
       q ∙ (λ k. splice (at + 16) (figureBytes (e k)) (stores .is k))
 
-  pub started-put : (x : Figure) (p c d : List ℕ) → p ≡ putChanges (phasePart r) at b → length p ≡ length b
-      → x ≡ r .carried
-      → c ≡ splice (at + 12) (figureBytes x) (set (set p (at + 2) (r .island)) (at + 5) (r .flag))
+  pub started-put : (x : Figure) (c d : List ℕ) → x ≡ r .carried
+      → c ≡ splice (at + 12) (figureBytes x)
+      (set (set (set b at (r .phase)) (at + 2) (r .island)) (at + 5) (r .flag))
       → d ≡ putChanges (collectedPart r) at c → d ≡ putChanges (startedPart r) at b
-  unfolding putChanges phasePart startedPart
-  started-put x p c d ep l e ec ed =
-      let start : After (length b) p (putChanges (phasePart r) at b) = record { long = l; is = ep } in
+  unfolding putChanges startedPart
+  started-put x c d e ec ed =
+      let start : After (length b) (set b at (r .phase)) (splice (at + 0) (r .phase ∷ []) b) =
+      record { long = simp length-set; is = first-put } in
       let stores = then 5 (r .flag) (lit< tt) (then 2 (r .island) (lit< tt) start) in
       ed ∙ ap (putChanges (collectedPart r) at) (ec ∙ (λ k. splice (at + 12) (figureBytes (e k)) (stores .is k)))

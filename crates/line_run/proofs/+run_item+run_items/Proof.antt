@@ -90,7 +90,7 @@ pub +run-item+run-items-spec : {M : Type 1} → statement M
     (λ c.
     let b = c .before .before .before in
     record { fits = omega (arith, rounds-place _ _ (c .before .if1 .left) (b .before .before .pre .1 .1)) })
-    (λ c κs. search rounds-stand)
+    (λ c κs. rounds-stand _ _ (c .before .if1 .left) (search))
     (λ c. search rounds-begin)
     (λ c κs. search (falls-to, times-behind, item-inside, round-reads))
     (λ c. search round-fits)

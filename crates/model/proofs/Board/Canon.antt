@@ -11,7 +11,7 @@ use Rattle.model.specs.Listing.{Flag, adopt, commit, filled, idle, Seen,
 use Rattle.model.specs.Layout.{layRegister, readRegister, registerFields, registerValue, seenNumber, bestIsland}
 use Rattle.model.specs.Layout.{bestFigure, seenOf, writePhase, flagByte, readRecord, layRecord, fields}
 use Rattle.model.specs.Layout.{recordFields, recordValue, writingOf, readingOf, ofPhase, changed, phaseIs}
-use Rattle.model.specs.Layout.{positionIs, seenIs, highestIs, flagIs, bestIs}
+use Rattle.model.specs.Layout.{positionIs, seenIs, highestIs, flagIs, bestIs, gapAt, gap, tailAt, tail}
 use Rattle.model.specs.Sound.{registerSound, collecting, phaseKnown, flagKnown, restZero, idleZero, collectZero}
 use Rattle.model.specs.Sound.{bestIslandZero, bestZero, seenKnown, fieldsSound}
 use Rattle.model.proofs.Board.Codec.{registerBytes, marked-by, register, station}
@@ -91,8 +91,8 @@ module _ (r : List ℕ) (e : length r ≡ 24) (bytes : Bytes r) where
       ++ figure-at 8 (lit≤ tt) i ++ figure-at 12 (lit≤ tt) i ++ figure-at 16 (lit≤ tt) i ++ last i)
       ∙ sym record-parts
     where
-      front : T (zeros (part 6 2 r))
-      front = and-l (zeros (part 6 2 r)) (zeros (part 20 4 r)) z
+      front : T (zeros (part gapAt gap r))
+      front = and-l (zeros (part gapAt gap r)) (zeros (part tailAt tail r)) z
 
       six : 0 ≡ byte r 6
       six = sym (zero-at 6 2 r (omega arith) front 0 (lit≤ tt))
@@ -100,8 +100,9 @@ module _ (r : List ℕ) (e : length r ≡ 24) (bytes : Bytes r) where
       seven : 0 ≡ byte r 7
       seven = sym (zero-at 6 2 r (omega arith) front 1 (lit≤ tt))
 
-      last : replicate 4 0 ≡ part 20 4 r
-      last = sym (part-zeros 20 4 r (omega arith) (and-r (zeros (part 6 2 r)) (zeros (part 20 4 r)) z))
+      last : replicate tail 0 ≡ part tailAt tail r
+      last =
+          sym (part-zeros tailAt tail r (omega arith) (and-r (zeros (part gapAt gap r)) (zeros (part tailAt tail r)) z))
 
 -- the fields that tell how a station stands, one by one
 same-fields : (r : List ℕ) (phase p : ℕ) (a : Seen Figure) (flag : ℕ) → phase ≡ byte r 0 → p ≡ byte r 1

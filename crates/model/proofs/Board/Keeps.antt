@@ -1,6 +1,6 @@
 -- What changes on a board keeps it sound: one register of a station, then that station's record.
 -- Relies on Boards and Values; that the calls keep a board sound relies on it.
-use Rattle.model.proofs.Kit.{_≡_, refl, sym, ap, subst, _&&_, List, some, ℕ, _<_, T, lit≤, ℕ-discrete, arith}
+use Rattle.model.proofs.Kit.{_≡_, refl, sym, ap, subst, List, some, ℕ, _<_, T, lit≤, ℕ-discrete, arith}
 use mathlib.Core.Path.{subst⁻¹}
 use Rattle.model.specs.declared.Record.{Record}
 use Rattle.model.specs.Bytes.{byte, zeros}
@@ -44,11 +44,10 @@ record-as : (n K j : ℕ) (b d r : List ℕ) → ((a : Array) → InBoard K a �
     → T (recordSound n K j b r) → T (recordSound n K j d r)
 unfolding recordSound recordValue readRecord
 record-as n K j b d r e t =
-    and-i (fieldsSound n K (byte r 0) r && ownWritten n j d (station r)) (ownPassed j (station r))
-    (and-i (fieldsSound n K (byte r 0) r) (ownWritten n j d (station r)) fields
-    (subst T (sym (own-written-as n K j b d e (station r) (fields-good n K (byte r 0) r fields)))
-    (search (and-l, and-r))))
-    (and-r (fieldsSound n K (byte r 0) r && ownWritten n j b (station r)) (ownPassed j (station r)) t)
+    let written : T (ownWritten n j d (station r)) =
+    subst T (sym (own-written-as n K j b d e (station r) (fields-good n K (byte r 0) r fields)))
+    (search (and-l, and-r)) in
+    search (and-i, and-l, and-r)
   where
     fields : T (fieldsSound n K (byte r 0) r)
     fields = search (and-l, and-r)
@@ -94,11 +93,12 @@ pub record-sound : (n K : ℕ) → 0 < n → 0 < K → (i : ℕ) (b : List ℕ) 
 unfolding recordSound GoodStation
 record-sound n K hn hK i b v s f fits g =
     let r = recordBytes (active v s) f in
-    and-i (fieldsSound n K (byte r 0) r && ownWritten n i b (station r)) (ownPassed i (station r))
-    (and-i (fieldsSound n K (byte r 0) r) (ownWritten n i b (station r))
-    (true-T _ (good-fields n K hn hK v s f (g .good)))
-    (subst⁻¹ (λ (z : Station Figure). T (ownWritten n i b z)) (station-bytes (active v s) f fits) (g .written)))
-    (subst⁻¹ (λ (z : Station Figure). T (ownPassed i z)) (station-bytes (active v s) f fits) (g .passed))
+    let same = station-bytes (active v s) f fits in
+    let fields : T (fieldsSound n K (byte r 0) r) = true-T _ (good-fields n K hn hK v s f (g .good)) in
+    let written : T (ownWritten n i b (station r)) =
+    subst⁻¹ (λ (z : Station Figure). T (ownWritten n i b z)) same (g .written) in
+    let passed : T (ownPassed i (station r)) = subst⁻¹ (λ (z : Station Figure). T (ownPassed i z)) same (g .passed) in
+    search and-i
 
 -- A record of station index i is put in that is sound there.
 module _ (i n K : ℕ) (b : List ℕ) (q : SoundBut i n K b) (own : i < n) (f : Record)

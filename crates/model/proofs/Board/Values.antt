@@ -10,7 +10,7 @@ use Rattle.model.specs.Listing.{nothing, seen, Stage, writing, reading, 
 use Rattle.model.specs.Listing.{array, entry, placeArray, placeColumn, flagNumber}
 use Rattle.model.specs.Layout.{registerAt, readRegister, registerValue, seenOf, readRecord, recordValue}
 use Rattle.model.specs.Layout.{writingOf, readingOf, ofPhase, registerOf, recordOf, stationOf}
-use Rattle.model.specs.Sound.{registerSound, sameRegister, ownWritten, ownSeen, ownPassed, fieldsSound}
+use Rattle.model.specs.Sound.{registerSound, sameRegister, ownWritten, ownSeen, ownPassed}
 use Rattle.model.specs.Sound.{recordSound}
 use Rattle.model.proofs.Basics.Tests.{and-l, and-r, and-i, implies-use}
 use Rattle.model.proofs.Basics.Numbers.{same-is, same-refl}
@@ -128,18 +128,13 @@ pub sound-station : (n K : ℕ) (b : List ℕ) → SoundBoard n K b → (i : ℕ
     → SoundStation n K i b (stationOf n K i b)
 unfolding stationOf recordValue readRecord recordSound
 sound-station n K b s i h = record {
-  good = fields-good n K (byte r 0) r (and-l (fieldsSound n K (byte r 0) r) (ownWritten n i b (station r)) all-but);
-  written = and-r (fieldsSound n K (byte r 0) r) (ownWritten n i b (station r)) all-but;
-  passed =
-      and-r (fieldsSound n K (byte r 0) r && ownWritten n i b (station r)) (ownPassed i (station r)) (s .records i h);
+  good = let t = s .records i h in fields-good n K (byte r 0) r (search (and-l, and-r));
+  written = let t = s .records i h in search (and-l, and-r);
+  passed = let t = s .records i h in search (and-l, and-r);
 }
   where
     r : List ℕ
     r = recordOf n K i b
-
-    all-but : T (fieldsSound n K (byte r 0) r && ownWritten n i b (station r))
-    all-but =
-        and-l (fieldsSound n K (byte r 0) r && ownWritten n i b (station r)) (ownPassed i (station r)) (s .records i h)
 
 own-something : (t : Turn) (c : ℕ) (x : Figure) (a : Seen Figure) → T (ownSeen t c x a) → Something a
 unfolding ownSeen

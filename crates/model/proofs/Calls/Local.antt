@@ -5,11 +5,11 @@ use Rattle.model.proofs.Kit.{_≡_, refl, sym, ap, _&&_, List, [], _∷
 use Rattle.model.specs.Figure.{Figure, figures}
 use Rattle.model.specs.Listing.{Stage, writing, reading, has-decided, is-spent, Station, idle, active, Answer}
 use Rattle.model.specs.Listing.{refused, wrote, nothing, entry, array, move, stay, placeArray, placeColumn}
-use Rattle.model.specs.Layout.{registerAt, recordAt, registerOf, recordOf, fieldsOf, stationOf}
+use Rattle.model.specs.Layout.{registerAt, recordAt, registerOf, recordOf, layRecord, stationOf}
 use Rattle.model.specs.Calls.{After, Refusal, unless, stations, islands, stationRefusal, stationAt, unlessRefused}
-use Rattle.model.specs.Calls.{putRecord, putRegister, notGoing, access, stepped, stepOn, step}
+use Rattle.model.specs.Calls.{putRecord, putRegister, notGoing, steppedRecord, access, stepped, stepOn, step}
 use Rattle.model.specs.Claims.{Change, change, Effect, apply, touched, ReadsNext}
-use Rattle.model.proofs.Board.Codec.{registerBytes, recordBytes, station}
+use Rattle.model.proofs.Board.Codec.{registerBytes, station}
 use Rattle.model.proofs.Board.Boards.{record-other, register-record}
 use Rattle.model.proofs.Listing.Written.{read-writes}
 use Rattle.model.proofs.Calls.CallsKeep.{stepOn-leaves}
@@ -24,7 +24,7 @@ abbrev at : ℕ → List ℕ → Change
 at o bs = record { offset = o; content = bs }
 
 abbrev own : (n K i : ℕ) → Figure → Stage Figure → List ℕ → Change
-own n K i v s b = at (recordAt n K i) (recordBytes (active v s) (fieldsOf n K i b))
+own n K i v s b = at (recordAt n K i) (layRecord (steppedRecord n K i v s b))
 
 -- a step by the station's record, where both boards have that record, and one register at its place
 stepped-one : (n K i : ℕ) (z : Station Figure) (b d : List ℕ) → recordOf n K i b ≡ recordOf n K i d

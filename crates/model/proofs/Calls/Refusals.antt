@@ -85,20 +85,31 @@ module _ (asked : Ranges) (n K : ℕ) (b : List ℕ) (later : Refusal) where
         unfolding shapeRefusal unless
         shape-on e = simp (le-leb 8 (length b) h, s, i, eq-eqb (length b) (boardLength n K) e)
 
+-- ranges that let nothing through but what 01's do
+pub record Inside (asked : Ranges) : Type 0 where
+  pub stations : (n : ℕ) → T (asked .stationsIn n) → T (ranges .stationsIn n)
+  pub islands : (K : ℕ) → T (asked .islandsIn K) → T (ranges .islandsIn K)
+
+pub inside-itself : Inside ranges
+inside-itself = record { stations = λ n t. t; islands = λ K t. t }
+
 module _ (n K : ℕ) (b : List ℕ) where
-  pub shape-of : (later : Refusal) → shapeRefusal ranges n K b later ≡ none → Shape n K b × (later ≡ none)
+  pub shape-of : (asked : Ranges) → Inside asked → (later : Refusal) → shapeRefusal asked n K b later ≡ none
+      → Shape n K b × (later ≡ none)
   unfolding shapeRefusal ranges
-  shape-of later e7 =
+  shape-of asked inside later e7 =
       let s7 = unless-none (leb 8 (length b)) 7 _ e7 in
-      let s8 = unless-none (leb 1 n && leb n 16) 8 _ (s7 .1) in
-      let s9 = unless-none (leb 2 K && leb K 64) 9 _ (s8 .1) in
-      let s10 = unless-none (eqb (length b) (boardLength n K)) 10 later (s9 .1) in (
+      let s8 = unless-none (asked .stationsIn n) 8 _ (s7 .1) in
+      let s9 = unless-none (asked .islandsIn K) 9 _ (s8 .1) in
+      let s10 = unless-none (eqb (length b) (boardLength n K)) 10 later (s9 .1) in
+      let stations = within 1 16 n (inside .stations n (s8 .0)) in
+      let islands = within 2 64 K (inside .islands K (s9 .0)) in (
         record {
           long = leb→le 8 (length b) (s7 .0);
-          stations-low = within 1 16 n (s8 .0) .0;
-          stations-high = within 1 16 n (s8 .0) .1;
-          islands-low = within 2 64 K (s9 .0) .0;
-          islands-high = within 2 64 K (s9 .0) .1;
+          stations-low = stations .0;
+          stations-high = stations .1;
+          islands-low = islands .0;
+          islands-high = islands .1;
           len = eqb→eq (length b) (boardLength n K) (s10 .0);
         },
         s10 .1,
@@ -115,7 +126,8 @@ module _ (n K : ℕ) (b : List ℕ) where
   unfolding lay
   laid-fresh =
       call-case (λ (a : After Refusal). a .answer ≡ none → Shape n K b × (a .bytes ≡ freshBoard n K))
-      (shapeRefusal ranges n K b none) some b _ (λ e f. (shape-of none e .0, refl)) (λ k e f. some-none k f)
+      (shapeRefusal ranges n K b none) some b _ (λ e f. (shape-of ranges inside-itself none e .0, refl))
+      (λ k e f. some-none k f)
 
 -- 7 to 11 are passed: what every call but laying asks of a board.
 pub record Board (b : List ℕ) : Type 0 where
@@ -125,7 +137,7 @@ pub record Board (b : List ℕ) : Type 0 where
 pub board-of : (b : List ℕ) (later : Refusal) → boardRefusal b later ≡ none → Board b × (later ≡ none)
 unfolding boardRefusal
 board-of b later e =
-    let s = shape-of (stations b) (islands b) b _ e in
+    let s = shape-of (stations b) (islands b) b ranges inside-itself _ e in
     let t = unless-none (sound (stations b) (islands b) b) 11 later (s .1) in
     (record { shape = s .0; sound-board = sound-facts (stations b) (islands b) b (s .0 .len) (t .0) }, t .1)
 

@@ -1,6 +1,7 @@
 -- `step_number` meets its contract: each kind with its fields, or the refusal's number.
 -- Relies on the laws of the packing.
 use Rattle.model.proofs.Kit.{needs}
+use Rattle.model.proofs.Basics.Numbers.{landed}
 use Rattle.model.specs.declared.StepAnswer.{StepAnswer}
 use Rattle.model.specs.Told.{told}
 use Rattle.packing.specs.Packing.{packedAt, packStep}
@@ -14,9 +15,9 @@ step-number-spec =
     (λ c. search needs) (λ c κs. search needs) (λ c. search needs) (λ c κs. search needs) (λ c. search needs)
     (λ c κs. search needs) (λ c. search needs) (λ c κs. search needs) (λ c. search needs) (λ c. search needs)
     (λ c. unfold packStep packedAt told in search) (λ c. unfold packStep packedAt told in search)
-    (λ c. unfold packStep told in search (tells (λ (a : StepAnswer). packStep (told a)), needs))
-    (λ c. unfold packStep told in search (tells (λ (a : StepAnswer). packStep (told a)), needs))
-    (λ c. unfold packStep told in search (tells (λ (a : StepAnswer). packStep (told a)), needs))
-    (λ c. unfold packStep told in search (tells (λ (a : StepAnswer). packStep (told a)), needs))
-    (λ c. unfold packStep told in search (tells (λ (a : StepAnswer). packStep (told a)), needs))
+    (λ c. unfold packStep told in search (tells (λ (a : StepAnswer). packStep (told a)), landed))
+    (λ c. unfold packStep told in search (tells (λ (a : StepAnswer). packStep (told a)), landed))
+    (λ c. unfold packStep told in search (tells (λ (a : StepAnswer). packStep (told a)), landed))
+    (λ c. unfold packStep told in search (tells (λ (a : StepAnswer). packStep (told a)), landed))
+    (λ c. unfold packStep told in search (tells (λ (a : StepAnswer). packStep (told a)), landed))
     (λ c. unfold packStep told in search (packs (λ (a : StepAnswer). packStep (told a)), alone)))

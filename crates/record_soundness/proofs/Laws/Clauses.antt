@@ -5,7 +5,7 @@ use Rattle.model.proofs.Kit.{le-leb, lt-leb, lt-ltb, le-ltb, eq-eqb, eqb, leb, 
 use Rattle.model.specs.declared.Record.{Record}
 use Rattle.model.specs.Bytes.{digits, part, zeros}
 use Rattle.model.specs.Figure.{figureBytes}
-use Rattle.model.specs.Layout.{layRecord}
+use Rattle.model.specs.Layout.{layRecord, tail}
 use Rattle.model.specs.Sound.{phaseKnown, positionInside, islandInside, bestInside, idleZero, restZero, seenKnown}
 use Rattle.record_soundness.specs.Groups.{boundsKept}
 use Rattle.figures.proofs.Laws.Zeros.{and-true, zeros-append, figure-zero}
@@ -33,7 +33,7 @@ module _ (f : Record) where
 
       whole : zeros
           (bytes f ++ (0 ∷ 0 ∷ []) ++ figureBytes (f .proposal) ++ figureBytes (f .carried) ++ figureBytes (f .best)
-          ++ replicate 4 0)
+          ++ replicate tail 0)
           ≡ zeros (bytes f ++ 0 ∷ 0 ∷ []) && zeros (figureBytes (f .proposal)) && zeros (figureBytes (f .carried))
           && zeros (figureBytes (f .best)) && true
       whole = simp zeros-append

@@ -1,7 +1,7 @@
 -- A record of a board by the tests that the code makes: the bytes without a field, the fields, the own register.
 -- Relies on the layout, the model's laws of a record's parts and codec's of reads; the proofs of records rely on it.
 use Rattle.model.proofs.Kit.{_≡_, sym, ap, subst, _∙_, Bool, true, false, _&&_, List, [], _∷_, ℕ, suc, _+_, _≤_}
-use Rattle.model.proofs.Kit.{_<_, le-ltb, lit≤, length, w8, w64, Fits, mul-le-mul, lt-of-not-le, arith}
+use Rattle.model.proofs.Kit.{_<_, le-ltb, lit≤, T, length, w8, w64, Fits, mul-le-mul, lt-of-not-le, arith}
 use native.Mathlib.Decide.{decLe}
 use Rattle.model.specs.declared.Record.{Record}
 use Rattle.model.specs.Bytes.{byte, part, zeros}
@@ -12,7 +12,7 @@ use Rattle.model.specs.Sound.{collectZero, bestIslandZero, bestZero, seenKnown}
 use Rattle.model.specs.Sound.{fieldsSound, ownWritten, ownPassed, recordSound}
 use Rattle.model.proofs.Board.Codec.{station}
 use Rattle.model.proofs.Basics.Numbers.{Bytes}
-use Rattle.model.proofs.Basics.Tests.{and-false, and-i, true-T}
+use Rattle.model.proofs.Basics.Tests.{and-false, and-l, and-r, and-i, true-T, no-T}
 use Rattle.model.proofs.Basics.Parts.{part-Bytes}
 use Rattle.model.proofs.Basics.Splices.{length-part}
 use Rattle.model.proofs.Board.Canon.{laid-fields}
@@ -79,8 +79,8 @@ module _ {n k i at : ℕ} {b : List ℕ} (p : Placed n k i at b) where
       → false ≡ recordSound n k i b (recordOf n k i b)
   unfolding recordSound
   fails q =
-      ap (λ (x : Bool). x && ownWritten n i b (station (recordOf n k i b)) && ownPassed i (station (recordOf n k i b)))
-      (sym q)
+      sym (no-T _ (λ (t : T (recordSound n k i b (recordOf n k i b))). let f : T (fieldsSound n k
+      (byte (recordOf n k i b) 0) (recordOf n k i b)) = search (and-l, and-r) in subst T q f))
 
   zeros-in : (o len : ℕ) → o + len ≤ 24 → zeros (part (at + o) len b) ≡ zeros (part o len (recordOf n k i b))
   zeros-in o len h = ap zeros (part-part at 24 o len b record-place h ∙ ap (part o len) here)

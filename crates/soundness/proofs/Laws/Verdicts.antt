@@ -8,7 +8,8 @@ use Rattle.model.specs.Layout.{boardLength}
 use Rattle.model.specs.Sound.{sound}
 use Rattle.model.specs.Calls.{unless, ranges, shapeRefusal, stations, islands, boardRefusal}
 use Rattle.model.specs.Told.{verdict}
-use Rattle.model.proofs.Calls.Refusals.{some-none, Shape, shape-7, shape-8, shape-9, shape-10, shape-on, shape-of}
+use Rattle.model.proofs.Calls.Refusals.{some-none, Shape, shape-7, shape-8, shape-9, shape-10, shape-on, inside-itself}
+use Rattle.model.proofs.Calls.Refusals.{shape-of}
 use Rattle.model.proofs.Calls.Refusals.{shape-passes, shape-first}
 use Rattle.soundness.specs.Shaped.{numbered, Shaped}
 
@@ -78,7 +79,7 @@ module _ (b : List ℕ) (s i : Bool) (es : s ≡ ranges .stationsIn (getD b 0 0)
   module _ (e : r ≡ 0) where
     shape : Shape (getD b 0 0) (getD b 1 0) b
     unfolding stations islands
-    shape = shape-of (stations b) (islands b) b none (sym said ∙ passed-by r e) .0
+    shape = shape-of (stations b) (islands b) b ranges inside-itself none (sym said ∙ passed-by r e) .0
 
     pub length-fits : length b ≡ boardLength (getD b 0 0) (getD b 1 0)
     length-fits = shape .len

@@ -9,9 +9,9 @@ use Rattle.model.specs.Figure.{Figure, figures, figureBytes}
 use Rattle.model.specs.Listing.{Turn, turnM, turnA, turnB, Register, Stage, writing, reading, has-decided, is-spent}
 use Rattle.model.specs.Listing.{Station, active, move, placeArray, placeColumn}
 use Rattle.model.specs.Layout.{registerAt, recordAt, readRegister, layRegister, registerValue, layRecord, recordFields}
-use Rattle.model.specs.Layout.{recordValue, writingOf, readingOf, ofPhase, registerOf, recordOf, fieldsOf, readRecord}
+use Rattle.model.specs.Layout.{recordValue, writingOf, readingOf, ofPhase, registerOf, recordOf, readRecord}
 use Rattle.model.specs.Layout.{putChanges}
-use Rattle.model.specs.Calls.{putRecord, access}
+use Rattle.model.specs.Calls.{putRecord, steppedRecord, access}
 use Rattle.model.proofs.Board.Codec.{register}
 use Rattle.model.proofs.Basics.Tests.{clash}
 use Rattle.model.proofs.Basics.Splices.{length-splice, part-after}
@@ -123,8 +123,8 @@ module _ (n K j : ℕ) (f : Record) (b : List ℕ) (place at : ℕ) (g : Fields.
 
   -- the record that the move leaves, over the one that stands on the board
   left : (s : Stage Figure) → Advanced f (move figures n K s (registerOf n (placeArray s) (placeColumn j s) b)) m
-      → m .station ≡ recordFields (active (f .proposal)
-      (move figures n K s (registerOf n (placeArray s) (placeColumn j s) b) .stage)) (fieldsOf n K j b)
+      → m .station ≡ steppedRecord n K j (f .proposal)
+      (move figures n K s (registerOf n (placeArray s) (placeColumn j s) b) .stage) b
   unfolding recordOf
   left s v =
       v .station ∙ ap (recordFields _) (o .read ∙ ap (λ (k : ℕ). readRecord (part k 24 b)) (o .place))

@@ -8,12 +8,11 @@ same-length : tie.Need-same-length
 same-length c =
     let collected = c .before .before in
     let figure = collected .before .before .before .before in
-    let phase = figure .before .before .before .before .before in
-    collected .put-collected .kept .0 ∙ figure .put-figure .kept .0 ∙ simp length-set (phase .put-phase .kept .0)
+    collected .put-collected .kept .0 ∙ figure .put-figure .kept .0 ∙ simp length-set
 
 pub put-started-spec : {M : Type 1} → statement M
 put-started-spec =
-    tie.close (tie.spec (λ c κs. search needs) (λ c. search needs) (λ c. search needs) (λ c. search needs)
+    tie.close (tie.spec (λ c. search needs) (λ c. search needs) (λ c. simp length-set (omega arith)) (λ c. search needs)
     (λ c. simp length-set (omega arith)) (λ c. search needs) (λ c κs. simp length-set (omega arith))
     (λ c κs. omega (arith, simp length-set at (c .before .before .before .put-figure .kept .0))) same-length
     (λ c. search (started-put, needs)))

@@ -1,5 +1,5 @@
 -- `known::known_number` meets its contract: by the first byte, and the loop keeps what the digits passed have made.
-use Rattle.model.proofs.Kit.{_+_, _-_, needs, length, getD, arith}
+use Rattle.model.proofs.Kit.{refl, _+_, _-_, needs, length, getD, arith}
 use Rattle.lexer.proofs.Laws.Numbers.{Along, begun, digit-more, below, above, ended, zero-read}
 use Rattle.lexer.proofs.Laws.Known.{known-inside, first-digit, first-small, stays-small, known-read}
 use Rattle.lexer.proofs.known.known_number.Statement.{statement}
@@ -24,5 +24,6 @@ known-number-spec =
     (λ c. omega (arith, first-digit _ _ (c .before .before .pre) (c .if1 .left) .0)) cast-value
     (λ c. omega (arith, known-inside _ _ (c .before .before .pre))) loop-holds (λ c. search needs)
     (λ c. search (known-read, below)) (λ c. search (known-read, above)) (λ c. search needs) (λ c. search needs)
-    (λ c. search needs) (λ c. search needs) (λ c. search needs) (λ c. search (digit-more, stays-small))
+    (λ c. search needs) (λ c. search needs) (λ c. search needs)
+    (λ c. digit-more _ _ _ _ _ _ (search) (search) (search) (search) _ refl (search stays-small))
     (λ c. search (known-read, ended)))

@@ -29,5 +29,8 @@ spaced-figure-spec =
     tie.close (tie.spec (λ c. figure-past _ _ (omega arith)) (λ c. search needs)
     (λ c. figure-unspaced _ _ (c .if2 .taken)) (λ c. search needs) (λ c. search figure-cut) (λ c. search needs)
     (λ c. search needs) (λ c. search needs) (λ c κs. search needs) (λ c. search needs) (λ c. search needs)
-    (λ c. search minus-missed) sub-t15 cast-t16 (λ c. search minus-found) (λ c. search needs) (λ c κs. search needs)
-    (λ c. search needs) (λ c. search needs) (λ c. search plain-missed) cast-t19 (λ c. search plain-found))
+    (λ c. minus-missed _ _ (search) (search) _ (c .before .before .number .ensures) _ (c .enum-told .given .1)) sub-t15
+    cast-t16 (λ c. search minus-found) (λ c. search needs) (λ c κs. search needs) (λ c. search needs)
+    (λ c. search needs)
+    (λ c. plain-missed _ _ (search) (search) _ (c .before .before .number2 .ensures) _ (c .enum-told2 .given .1))
+    cast-t19 (λ c. search plain-found))

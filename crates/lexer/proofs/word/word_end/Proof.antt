@@ -13,6 +13,6 @@ abbrev μ-loop : tie.MeasureT-loop
 
 pub word-end-spec : {M : Type 1} → statement M
 word-end-spec =
-    tie.close (tie.spec Inv-loop μ-loop (λ c. begun _ (c .pre)) (λ c. search needs) (λ c. search at-space)
-    (λ c. search at-open) (λ c. search at-close) (λ c. search needs) (λ c. search needs) (λ c. search goes-on)
-    (λ c. search at-end))
+    tie.close (tie.spec Inv-loop μ-loop (λ c. begun _ (c .pre)) (λ c. search needs)
+    (λ c. at-space _ _ (search) (search) (c .if1 .taken)) (λ c. search at-open) (λ c. search at-close)
+    (λ c. search needs) (λ c. search needs) (λ c. search goes-on) (λ c. search at-end))

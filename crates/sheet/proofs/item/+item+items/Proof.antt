@@ -102,4 +102,4 @@ pub +item+items-spec : {M : Type 1} → statement M
     (λ c κs. search needs)
     (λ c. search item-less)
     (λ c. search again)
-    (λ c. search no-more))
+    (λ c. no-more _ _ _ _ (c .before .loop .inv) (c .loop-test .left)))

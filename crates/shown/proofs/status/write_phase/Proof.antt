@@ -1,6 +1,7 @@
 -- `status::write_phase` meets its contract: as the station stands, the text is that of a law of Statuses.
 use Rattle.model.proofs.Kit.{needs}
 use Rattle.model.specs.Show.{text, textFrom}
+use Rattle.model.proofs.Basics.Numbers.{landed}
 use Rattle.shown.proofs.Rooms.{room-same}
 use Rattle.shown.proofs.Statuses.{idle-text, idle-puts, going-text, decided-text, spent-text, room-as, puts-as}
 use Rattle.shown.proofs.status.write_phase.Statement.{statement}
@@ -12,15 +13,15 @@ write-word-requires c κs = search (room-same, idle-text)
 
 write-standing-requires : tie.Need-write-standing-requires
 unfolding text textFrom
-write-standing-requires c κs = search (room-as, going-text, needs)
+write-standing-requires c κs = search (room-as, going-text, landed)
 
 write-standing-requires-2 : tie.Need-write-standing-requires-2
 unfolding text textFrom
-write-standing-requires-2 c κs = search (room-as, decided-text, needs)
+write-standing-requires-2 c κs = search (room-as, decided-text, landed)
 
 write-standing-requires-3 : tie.Need-write-standing-requires-3
 unfolding text textFrom
-write-standing-requires-3 c κs = search (room-as, spent-text, needs)
+write-standing-requires-3 c κs = search (room-as, spent-text, landed)
 
 returns : tie.Need-returns
 unfolding text textFrom
@@ -28,15 +29,15 @@ returns c = search idle-puts
 
 returns-2 : tie.Need-returns-2
 unfolding text textFrom
-returns-2 c = search (going-text, puts-as, needs)
+returns-2 c = search (going-text, puts-as, landed)
 
 returns-3 : tie.Need-returns-3
 unfolding text textFrom
-returns-3 c = search (decided-text, puts-as, needs)
+returns-3 c = search (decided-text, puts-as, landed)
 
 returns-4 : tie.Need-returns-4
 unfolding text textFrom
-returns-4 c = search (spent-text, puts-as, needs)
+returns-4 c = search (spent-text, puts-as, landed)
 
 pub write-phase-spec : {M : Type 1} → statement M
 write-phase-spec =

@@ -9,4 +9,5 @@ station-place-spec =
     tie.close (tie.spec (λ c. omega (arith, head-long)) (λ c. omega (arith, head-long))
     (λ c. twelve _ _ (λ l h. omega arith)) (λ c. twelve _ _ (λ l h. omega arith)) (λ c. search needs)
     (λ c. record { fits = omega (arith, n-high) }) (λ c. record { fits = omega (arith, k-high) })
-    (λ c κs. (omega (arith, n-high), omega (arith, k-high), omega arith)) (λ c. search placed))
+    (λ c κs. (omega (arith, n-high), omega (arith, k-high), omega arith))
+    (λ c. placed _ _ (search) (omega arith) (omega arith) _ (search)))
