@@ -1,12 +1,12 @@
 -- What a move changes in a station's record: a write the phase alone, a read in the middle of a collect what it has
 -- seen, and no move the proposal. Relies on the listing's move and on the codec's parts of a record; the law of an
 -- accepted step relies on it, which puts back only what changed.
-use Rattle.model.proofs.Kit.{_≡_, refl, sym, ap, subst, _∙_, true, false, List, [], _∷_, Option, ℕ, _+_, ltb}
+use Rattle.model.proofs.Kit.{_≡_, refl, sym, ap, subst, _∙_, true, false, List, Option, ℕ, _+_, ltb}
 use Rattle.model.specs.declared.Record.{Record}
 use Rattle.model.specs.Figure.{Figure, figures}
 use Rattle.model.specs.Listing.{Turn, Register, Seen, Stage, writing, reading, has-decided, is-spent, active}
 use Rattle.model.specs.Listing.{Move, stay, ended, see, move}
-use Rattle.model.specs.Layout.{fields, recordFields, Change, changed, proposalIs}
+use Rattle.model.specs.Layout.{fields, recordFields, Change, changed}
 use Rattle.model.proofs.Basics.Tests.{clash, cond-case}
 use Rattle.model.proofs.Listing.Cases.{ended-case}
 use Rattle.model.proofs.Listing.Written.{read-writes}
@@ -59,16 +59,14 @@ module _ (n K : ℕ) (f : Record) (g : Register Figure) (m : Moved) where
   read-changes (has-decided c x) e a w l = over collectedPart _ _ e (a .station) refl
   read-changes (is-spent c x) e a w l = over collectedPart _ _ e (a .station) refl
 
-  kept : (s : Stage Figure) → recordFields (active (f .proposal) s) f .proposal ≡ f .proposal
-  unfolding recordFields fields changed
-  kept (writing t c x) = refl
-  kept (reading t c x p r) = refl
-  kept (has-decided c x) = refl
-  kept (is-spent c x) = refl
+  started : (s : Stage Figure)
+      → changed (startedPart (recordFields (active (f .proposal) s) f)) f ≡ recordFields (active (f .proposal) s) f
+  unfolding recordFields fields changed startedPart collectedPart
+  started (writing t c x) = refl
+  started (reading t c x p r) = refl
+  started (has-decided c x) = refl
+  started (is-spent c x) = refl
 
   pub move-changes : (s : Stage Figure) → Advanced f (move figures n K s g) m
       → changed (startedPart (m .station)) f ≡ m .station
-  unfolding changed startedPart collectedPart
-  move-changes s a =
-      ap (λ (x : Figure). changed (proposalIs x ∷ []) (m .station))
-      (sym (ap (λ (z : Record). z .proposal) (a .station) ∙ kept _))
+  move-changes s a = ap (λ (q : Record). changed (startedPart q) f) (a .station) ∙ started _ ∙ sym (a .station)
