@@ -10,11 +10,4 @@ pub play-board-spec : {M : Type 1} → statement M
 play-board-spec =
     tie.close (tie.spec (λ c κs. search needs) (λ c κs. search needs) (λ c. search needs) (λ c. search part-length)
     (λ c κs. search needs) (λ c. search needs) (λ c κs. search needs) (λ c. search needs) (λ c κs. search needs)
-    (λ c. search needs)
-    (λ c. let l = c .before .before .before .before .before .before in
-    board-turned _ _ _ _ _ _ _ _ (l .before .before .before .board-length .ensures) (l .before .before .least .ensures)
-    (l .lay .ensures) _ _ (c .before .before .laying .given .1) (c .turned-down .ensures))
-    (λ c. search needs)
-    (λ c. let l = c .before .before .before .before .before in
-    board-plays _ _ _ _ _ _ _ _ (l .before .before .before .board-length .ensures) (l .before .before .least .ensures)
-    (l .lay .ensures) _ (c .before .enum-told .given .1) (c .laid-line .ensures)))
+    (λ c. search needs) (λ c. search board-turned) (λ c. search needs) (λ c. search board-plays))
