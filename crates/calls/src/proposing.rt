@@ -18,8 +18,8 @@ use soundness::place::NO_STATION;
 use soundness::place::Place;
 use soundness::place::station_place;
 
-// "phase 1, c = 0, proposal and carried = the figure". Each field that tells how a station stands is set, so that nothing need be
-// known of the record that stood there.
+// "phase 1, c = 0, proposal and carried = the figure". Each field that tells how a station stands is set, so that nothing
+// need be known of the record that stood there.
 fn beginning(station: Record, figure: i32) -> Record
     ensures { λ r. ⌜ r ≡ recordFields (proposed figure) station ⌝ }
 {

@@ -117,7 +117,7 @@ fields-back phase p c a flag v x f hv hx ha =
     λ i. changed (proposalIs (bytes-Fits v hv i) ∷ carriedIs (bytes-Fits x hx i) ∷ bestIs (best-back a ha i) ∷ [])
     (fields phase p c a flag v x (readRecord (layRecord f)))
 
-pub record-back : (s : Station Figure) (f : Record) → FitsStation s
+record-back : (s : Station Figure) (f : Record) → FitsStation s
     → readRecord (recordBytes s f) ≡ recordFields s (readRecord (layRecord f))
 unfolding recordFields FitsStation FitsStage FitsSeen Fits
 record-back idle f h = fields-back _ _ _ nothing _ _ _ f (record { sfits = lit< tt }) (record { sfits = lit< tt }) tt

@@ -87,7 +87,7 @@ module _ (i n K : ℕ) (b : List ℕ) (s : SoundBut i n K b) (a : Array) (inside
   }
 
 -- A good station with its own clauses encodes to a sound record.
-pub record-sound : (n K : ℕ) → 0 < n → 0 < K → (i : ℕ) (b : List ℕ) (v : Figure) (s : Stage Figure) (f : Record)
+record-sound : (n K : ℕ) → 0 < n → 0 < K → (i : ℕ) (b : List ℕ) (v : Figure) (s : Stage Figure) (f : Record)
     → FitsStation (active v s) → SoundStation n K i b (active v s)
     → T (recordSound n K i b (recordBytes (active v s) f))
 unfolding recordSound GoodStation
