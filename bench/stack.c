@@ -29,6 +29,7 @@ static const char *const names[] = {
     "lufanelis_step",
     "lufanelis_standing",
     "lufanelis_run",
+    "lufanelis_rounds",
     "lufanelis_show",
     "lufanelis_word",
     "lufanelis_play_line, board",
@@ -36,16 +37,32 @@ static const char *const names[] = {
     "lufanelis_play_line, steps in eight brackets",
     "lufanelis_play_line, 10,000 steps",
     "lufanelis_play_line, show",
+    "lufanelis_play_line, 64 rounds",
 };
 
 static uint8_t board[LUFANELIS_LARGEST_BOARD];
 static uint8_t line[LUFANELIS_LINE_LENGTH];
 static uint8_t stations[96];
+
+/* A board of its own for rounds, since they need one on which nobody stands amid a collect. */
+static uint8_t other[LUFANELIS_LARGEST_BOARD];
+static const uint8_t suspended[] = {255, 1, 255, 2, 255, 3, 255, 1, 255, 255, 2, 255, 255, 255, 255, 16};
+#define FOUR_ROUNDS " (3) (1) () (2)"
+#define SIXTEEN_ROUNDS FOUR_ROUNDS FOUR_ROUNDS FOUR_ROUNDS FOUR_ROUNDS
+static const char rounds[] = "(rounds 1" SIXTEEN_ROUNDS SIXTEEN_ROUNDS SIXTEEN_ROUNDS SIXTEEN_ROUNDS ")";
 static volatile uint64_t sink;
 
 static uint64_t played(const char *text)
 {
     return lufanelis_play_line((const uint8_t *)text, strlen(text), sizeof board, board, sizeof board, line, sizeof line);
+}
+
+/* All sixteen have proposed, and none has taken a step. */
+static void lay_other(void)
+{
+    lufanelis_lay(other, sizeof other, 16, 64);
+    for (int i = 1; i <= 16; i++)
+        lufanelis_propose(other, sizeof other, (uint8_t)i, INT32_MIN + i);
 }
 
 /* On the largest board: figures of eleven characters, and lines that go deepest. */
@@ -62,6 +79,8 @@ static void calls(void)
     for (size_t i = 0; i < sizeof stations; i++)
         stations[i] = (uint8_t)(i % 16 + 1);
     MEASURE(lufanelis_run(board, sizeof board, stations, sizeof stations));
+    lay_other();
+    MEASURE(lufanelis_rounds(other, sizeof other, 1, suspended, sizeof suspended));
     MEASURE(lufanelis_show(board, sizeof board, line, sizeof line));
     MEASURE(lufanelis_word((const uint8_t *)word, sizeof word - 1));
     MEASURE(played("(board 16 64)"));
@@ -69,6 +88,9 @@ static void calls(void)
     MEASURE(played("(steps (times 1 (times 1 (times 1 (times 1 (times 1 (times 1 (times 1 16))))))))"));
     MEASURE(played("(steps (times 10000 0))"));
     MEASURE(played("(show)"));
+    lay_other();
+    memcpy(board, other, sizeof board);
+    MEASURE(played(rounds));
 }
 
 static unsigned long long stack_pointer(pid_t child)

@@ -26,8 +26,9 @@
 extern "C" {
 #endif
 
-/* Why a call is turned down, in the order in which it is tested. No call answers with 1 to 5: 1 comes only from the program
- * that plays whole sheets, and 2 to 5 only in what `lufanelis_play_line` prints, as `(refused 4)`. */
+/* Why a call is turned down, in the order in which it is tested; rounds are tested for 18 and 19 behind 11. No call answers
+ * with 1 to 5: 1 comes only from the program that plays whole sheets, and 2 to 5 only in what `lufanelis_play_line` prints, as
+ * `(refused 4)`. */
 enum {
     LUFANELIS_ACCEPTED = 0,
     LUFANELIS_TOO_MANY_STEPS = 6,     /* a run of more than 65,536 stations */
@@ -41,7 +42,9 @@ enum {
     LUFANELIS_IDLE = 14,              /* the station to step */
     LUFANELIS_HAS_DECIDED = 15,
     LUFANELIS_IS_SPENT = 16,
-    LUFANELIS_LINE_TOO_LONG = 17      /* a shown line of more than 512 bytes; no board has one */
+    LUFANELIS_LINE_TOO_LONG = 17,     /* a shown line of more than 512 bytes; no board has one */
+    LUFANELIS_AMID_COLLECT = 18,      /* a station stands in phase 2, 4 or 6 */
+    LUFANELIS_BAD_ROUND = 19          /* a round names more than `most` stations, 0, one above n, or one out of rising order */
 };
 
 /* What a step did. */
@@ -76,8 +79,11 @@ enum {
 #define LUFANELIS_LARGEST_BOARD 16904
 #define LUFANELIS_LINE_LENGTH 512
 
-/* What a call answers that was lent too short a buffer, or `lufanelis_play_line` for too large a `laid`. No other answer is
- * that number. */
+/* Ends a round in the list of `lufanelis_rounds`. */
+#define LUFANELIS_ROUND_END 255
+
+/* What a call answers that was lent too short a buffer, `lufanelis_play_line` for too large a `laid`, or `lufanelis_rounds` for
+ * too long a list. No other answer is that number. */
 #define LUFANELIS_NOT_SHOWN UINT32_C(0xFFFFFFFF)
 #define LUFANELIS_NOT_PLAYED UINT64_C(0xFFFFFFFFFFFFFFFF)
 
@@ -115,6 +121,18 @@ uint64_t lufanelis_standing(const uint8_t *board, size_t board_length, uint8_t s
  *   bits 56 to 63   0 */
 uint64_t lufanelis_run(uint8_t *board, size_t board_length, const uint8_t *stations, size_t stations_length);
 
+/* Plays rounds. In a round every going station that is not suspended takes one whole step, a write and its collect, in station
+ * order: n + 1 steps of `lufanelis_step`. `named` lists the suspended stations round by round: the numbers of a round, rising
+ * and at most `most` of them, and then LUFANELIS_ROUND_END. The last round may lack its end, and nothing after a final end is
+ * no round: an empty list has no round, {255} one that suspends nobody, {2} and {2, 255} one that suspends station 2. An idle,
+ * decided or spent station may be named. Every round is tested before the first is played. Writes `board`. Answers
+ *   bits 0 to 7     the refusal's number (7 to 11, 18, 19), 0 for rounds that were played
+ *   bits 8 to 15    how many stations stand decided afterwards, those that had decided before among them; 0 beside a refusal
+ *   bits 16 to 47   the rounds played, which are all rounds of the list; 0 beside a refusal
+ *   bits 48 to 63   0
+ * or LUFANELIS_NOT_PLAYED where `named_length` is above 4,294,967,295, and then writes nothing. */
+uint64_t lufanelis_rounds(uint8_t *board, size_t board_length, uint8_t most, const uint8_t *named, size_t named_length);
+
 /* The line `(stations ..)` that says how each station stands. Writes the first 512 bytes of `line`: the line and zeros after
  * it; the bytes behind them stay. Answers
  *   bits 0 to 7     the refusal's number (7 to 11), 0 for a line
@@ -123,7 +141,7 @@ uint64_t lufanelis_run(uint8_t *board, size_t board_length, const uint8_t *stati
  * or LUFANELIS_NOT_SHOWN where `line_length` is below 512. Beside a refusal and LUFANELIS_NOT_SHOWN it writes nothing. */
 uint32_t lufanelis_show(const uint8_t *board, size_t board_length, uint8_t *line, size_t line_length);
 
-/* The word that names the form of a run sheet's line: board, propose, steps or show. Writes nothing. Answers
+/* The word that names the form of a run sheet's line: board, propose, steps, rounds or show. Writes nothing. Answers
  *   bits 0 to 31    where the word starts in the line, which is 1
  *   bits 32 to 63   its length
  * or 0 where there is none. */
@@ -137,9 +155,9 @@ uint64_t lufanelis_word(const uint8_t *line, size_t line_length);
  * or LUFANELIS_NOT_PLAYED where `printed_length` is below 512 or `laid` above 4,294,967,295, and then writes nothing.
  *
  * A line feed in `line` is a byte like any other: no form has one, so such a line prints `(refused 4)`, or 2 or 3 where it is
- * too long or too deep. Where `laid` exceeds `memory_length` the board is the whole memory: propose, steps and show go on if
- * that is a sound board by chance, and are refused with 7 to 11 if not. A board that does not fit the memory is not laid, with
- * 10, or with 7 where the memory has fewer than 8 bytes. */
+ * too long or too deep. Where `laid` exceeds `memory_length` the board is the whole memory: propose, steps, rounds and show go
+ * on if that is a sound board by chance, and are refused with 7 to 11 if not. A board that does not fit the memory is not laid,
+ * with 10, or with 7 where the memory has fewer than 8 bytes. */
 uint64_t lufanelis_play_line(const uint8_t *line, size_t line_length, size_t laid, uint8_t *memory, size_t memory_length,
                              uint8_t *printed, size_t printed_length);
 
@@ -176,6 +194,19 @@ static inline int32_t lufanelis_standing_figure(uint64_t answer) { return lufane
 static inline uint8_t lufanelis_run_refusal(uint64_t answer) { return (uint8_t)(answer & 0xFF); }
 static inline uint32_t lufanelis_run_taken(uint64_t answer) { return (uint32_t)(answer >> 8 & 0xFFFFFF); }
 static inline uint32_t lufanelis_run_passed(uint64_t answer) { return (uint32_t)(answer >> 32 & 0xFFFFFF); }
+
+/* LUFANELIS_NOT_PLAYED has the refusal 255, which is no other answer's, no station decided and no round played. */
+static inline uint8_t lufanelis_rounds_refusal(uint64_t answer) { return (uint8_t)(answer & 0xFF); }
+
+static inline uint8_t lufanelis_rounds_decided(uint64_t answer)
+{
+    return answer == LUFANELIS_NOT_PLAYED ? 0 : (uint8_t)(answer >> 8 & 0xFF);
+}
+
+static inline uint32_t lufanelis_rounds_played(uint64_t answer)
+{
+    return answer == LUFANELIS_NOT_PLAYED ? 0 : (uint32_t)(answer >> 16 & 0xFFFFFFFF);
+}
 
 /* LUFANELIS_NOT_SHOWN has the refusal 255, which is no other answer's, and the length 0. */
 static inline uint8_t lufanelis_show_refusal(uint32_t answer) { return (uint8_t)(answer & 0xFF); }

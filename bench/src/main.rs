@@ -9,9 +9,9 @@ mod work;
 use reference::compare::Compare;
 
 /// The fast comparison must answer as the document says before it is worth measuring.
-fn compare(rounds: u64) {
+fn compare(batches: u64) {
     let mut compare = Compare::new(&direct::Direct);
-    (1..=rounds).for_each(|seed| compare.round(seed));
+    (1..=batches).for_each(|seed| compare.batch(seed));
     compare.told.iter().for_each(|line| println!("{line}"));
     println!("{} passed, {} failed", compare.passed, compare.failed);
     std::process::exit((compare.failed > 0) as i32);

@@ -1,7 +1,7 @@
 //! The tables of `bench/run`, from what it wrote down: counts, times, sheets and stack, in fields with tabs between them.
 
 use crate::measure::ENGINES;
-use crate::work::{contended, LONGEST_RUN, SIZES};
+use crate::work::{contended, LONGEST_RUN, MOST_ROUNDS, SIZES};
 use std::collections::BTreeMap;
 
 /// By engine, n, K and what was measured.
@@ -26,12 +26,15 @@ enum Column {
     Each(&'static str),
     /// The same for the longest list of which every step is taken.
     EachTaken(&'static str),
+    /// Rounds less the same call with no round, for each of them.
+    EachRound(&'static str),
 }
 
-const COLUMNS: [(&str, Column); 8] = [
+const COLUMNS: [(&str, Column); 9] = [
     ("step taken in a run", Column::EachTaken("taken")),
     ("step refused in a run", Column::Each("refused")),
     ("run of 65,536", Column::Whole("run")),
+    ("round of stations that are done", Column::EachRound("done")),
     ("first single step", Column::Whole("first step")),
     ("single step midway", Column::Whole("middle step")),
     ("laying", Column::Whole("lay")),
@@ -39,14 +42,19 @@ const COLUMNS: [(&str, Column); 8] = [
     ("soundness", Column::Whole("check")),
 ];
 
+fn raw(all: &Numbers, engine: &str, n: u8, k: u8, what: &str) -> Option<f64> {
+    all.get(&(engine.to_string(), n, k, what.to_string())).copied()
+}
+
 impl Column {
     fn value(&self, all: &Numbers, engine: &str, n: u8, k: u8) -> Option<f64> {
-        let raw = |what: &str| all.get(&(engine.to_string(), n, k, what.to_string())).copied();
+        let raw = |what: &str| raw(all, engine, n, k, what);
         let each = |what: &str, steps: usize| Some((raw(what)? - raw(&format!("{what}, none"))?) / steps as f64);
         match self {
             Column::Whole(what) => Some(raw(what)? - raw("nothing")?),
             Column::Each(what) => each(what, LONGEST_RUN),
             Column::EachTaken(what) => each(what, contended(n, k).len()),
+            Column::EachRound(what) => each(what, MOST_ROUNDS),
         }
     }
 }
@@ -113,6 +121,22 @@ fn kinds(all: &Numbers) {
     }
 }
 
+/// Lines of rounds beside lines of the same single steps. Of direct there is none: it plays no lines of its own.
+fn lines(all: &Numbers) {
+    const PAIRS: [(&str, u8, u8); 2] = [("settling", 16, 64), ("circling", 3, 64)];
+    println!("\nInstructions of a line of rounds and of a line of the same steps:\n");
+    println!("| line | n, K | rounds | steps | rounds over steps | values' |\n|{}", "---|".repeat(6));
+    for (name, n, k) in PAIRS {
+        let of = |engine, form| {
+            Some(raw(all, engine, n, k, &format!("{name}, {form}"))? - raw(all, engine, n, k, "nothing")?)
+        };
+        let pair = |engine| Some((of(engine, "rounds")?, of(engine, "steps")?));
+        let (Some((rounds, steps)), Some(values)) = (pair("ours"), pair("values")) else { continue };
+        let (ratio, theirs) = (rounds / steps, values.0 / values.1);
+        println!("| {name} | {n}, {k} | {} | {} | {ratio:.2} | {theirs:.2} |", told(rounds), told(steps));
+    }
+}
+
 /// A table of which the fields stand ready.
 fn plain(title: &str, head: &str, folder: &str, name: &str) {
     println!("\n{title}\n\n{head}\n|{}", "---|".repeat(head.matches('|').count() - 1));
@@ -129,6 +153,7 @@ pub fn print(folder: &str) {
     } else {
         table("Instructions, ours (over direct, over values):", &counts);
         kinds(&counts);
+        lines(&counts);
     }
     table("Nanoseconds on this machine, ours (over direct, over values):", &numbers(folder, "times"));
     let head = "| sheet | repeats | instructions of one | values' | the whole sheet | values' | time | values' |";

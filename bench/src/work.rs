@@ -7,6 +7,9 @@ pub const SIZES: [(u8, u8); 9] = [(1, 2), (1, 8), (1, 64), (3, 2), (3, 8), (3, 6
 
 pub const LONGEST_RUN: usize = 65_536;
 
+/// As many rounds as a line holds.
+pub const MOST_ROUNDS: usize = 81;
+
 /// One call. Nothing is the measuring's own price, which is taken off every other one.
 #[derive(Clone)]
 pub enum Call {
@@ -14,6 +17,9 @@ pub enum Call {
     Lay(u8, u8),
     Step(u8),
     Run(Vec<u8>),
+    /// Rounds in which nobody is suspended.
+    Rounds(Vec<u8>),
+    Line(Vec<u8>),
     Check,
     Show,
 }
@@ -38,6 +44,8 @@ impl Case {
             Call::Lay(n, k) => engine.lay(board, *n, *k) as u64,
             Call::Step(station) => engine.step(board, *station),
             Call::Run(stations) => engine.run(board, stations),
+            Call::Rounds(named) => engine.rounds(board, 0, named),
+            Call::Line(text) => engine.play_line(text, board.len(), board, line),
             Call::Check => engine.check(board) as u64,
             Call::Show => engine.show(board, line) as u64,
         }
@@ -105,6 +113,46 @@ fn kinds(n: u8, k: u8) -> Vec<Case> {
     cases
 }
 
+/// A line of rounds and a line of the same single steps, by what they are called in the tables. Both leave one board.
+fn line_pair(name: &str, board: &[u8], lines: [String; 2]) -> [Case; 2] {
+    let left = lines.clone().map(|line| {
+        let (mut board, mut printed) = (board.to_vec(), [0; SHOWN]);
+        Reference.play_line(&mut line.into_bytes(), board.len(), &mut board, &mut printed);
+        assert!(!printed.starts_with(b"(refused"));
+        board
+    });
+    assert!(left[0] == left[1], "{name}: the lines differ in what they do");
+    let [rounds, steps] = lines.map(|line| Call::Line(line.into_bytes()));
+    [Case::new(&format!("{name}, rounds"), board, rounds), Case::new(&format!("{name}, steps"), board, steps)]
+}
+
+/// Nobody suspended: all settle in a few rounds, and the others find them done.
+fn settling_lines(n: u8, k: u8) -> [Case; 2] {
+    let turns: String = (1..=n).map(|station| format!(" (times {} {station})", n + 1)).collect();
+    let rounds = format!("(rounds 0{})", " ()".repeat(MOST_ROUNDS));
+    line_pair("settling", &proposed(n, k), [rounds, format!("(steps (times {MOST_ROUNDS}{turns}))")])
+}
+
+/// Three stations that one suspended station a round keeps from deciding: every step is taken.
+fn circling_lines(k: u8) -> [Case; 2] {
+    let mut board = vec![0; length(3, k)];
+    assert_eq!(Reference.lay(&mut board, 3, k), 0);
+    (1..=3).for_each(|station| assert_eq!(Reference.propose(&mut board, station, (station == 3) as i32), 0));
+    assert_eq!(Reference.rounds(&mut board, 1, &mut [255, 1, 255, 2, 255]), 3 << 16);
+    let turns: String = [1, 2, 2, 3, 1, 2, 3, 1, 3].map(|station| format!(" (times 4 {station})")).concat();
+    let rounds = format!("(rounds 1{})", " (3) (1) () (2)".repeat(16));
+    line_pair("circling", &board, [rounds, format!("(steps (times 16{turns}))")])
+}
+
+/// The lines of rounds that are measured, for one size each.
+fn round_lines(n: u8, k: u8) -> Vec<Case> {
+    match (n, k) {
+        (16, 64) => settling_lines(n, k).to_vec(),
+        (3, 64) => circling_lines(k).to_vec(),
+        _ => vec![],
+    }
+}
+
 /// Every call that is measured for one n and K.
 pub fn cases(n: u8, k: u8) -> Vec<Case> {
     let fresh = proposed(n, k);
@@ -122,6 +170,8 @@ pub fn cases(n: u8, k: u8) -> Vec<Case> {
         Case::new("taken, none", &fresh, Call::Run(vec![])),
         Case::new("refused", &end, refused),
         Case::new("refused, none", &end, Call::Run(vec![])),
+        Case::new("done", &end, Call::Rounds(vec![255; MOST_ROUNDS])),
+        Case::new("done, none", &end, Call::Rounds(vec![])),
         Case::new("first step", &fresh, Call::Step(1)),
         Case::new("middle step", &middle, Call::Step(taken[half])),
         Case::new("lay", &end, Call::Lay(n, k)),
@@ -130,6 +180,7 @@ pub fn cases(n: u8, k: u8) -> Vec<Case> {
         Case::new("check fresh", &fresh, Call::Check),
         Case::new("check end", &end, Call::Check),
     ];
+    cases.extend(round_lines(n, k));
     cases.extend(kinds(n, k).into_iter().map(|case| Case { timed: false, ..case }));
     cases
 }

@@ -2,6 +2,7 @@
  * or full, and on answers of the calls themselves. One source for C99 and for C++.
  * Relies on the header and the archive; tests/compare runs it. Tells what does not hold, and last 'N passed, M failed'. */
 #include <stdio.h>
+#include <stdlib.h>
 #include <string.h>
 
 #include "lufanelis.h"
@@ -61,12 +62,18 @@ static void parts(void)
     PART(lufanelis_run_refusal, BITS(0, 8), 255);
     PART(lufanelis_run_taken, BITS(8, 24), 16777215);
     PART(lufanelis_run_passed, BITS(32, 24), 16777215);
+    PART(lufanelis_rounds_refusal, BITS(0, 8), 255);
+    PART(lufanelis_rounds_decided, BITS(8, 8), 255);
+    PART(lufanelis_rounds_played, BITS(16, 32), 4294967295U);
     PART(lufanelis_show_refusal, UINT32_C(0xFF), 255);
     PART(lufanelis_show_length, UINT32_C(0xFFFF0000), 65535);
     PART(lufanelis_word_start, BITS(0, 32), 4294967295U);
     PART(lufanelis_word_length, BITS(32, 32), 4294967295U);
     PART(lufanelis_played_length, BITS(0, 16), 65535);
     PART(lufanelis_played_laid, BITS(16, 48), BITS(0, 48));
+    HOLDS(lufanelis_rounds_refusal(LUFANELIS_NOT_PLAYED) == 255);
+    HOLDS(lufanelis_rounds_decided(LUFANELIS_NOT_PLAYED) == 0);
+    HOLDS(lufanelis_rounds_played(LUFANELIS_NOT_PLAYED) == 0);
     HOLDS(lufanelis_show_refusal(LUFANELIS_NOT_SHOWN) == 255);
     HOLDS(lufanelis_show_length(LUFANELIS_NOT_SHOWN) == 0);
     HOLDS(lufanelis_played_length(LUFANELIS_NOT_PLAYED) == 0);
@@ -151,6 +158,62 @@ static void runs(void)
     HOLDS(lufanelis_run_taken(ran) == 0 && lufanelis_run_passed(ran) == 0);
 }
 
+static int plays(uint64_t answer, uint32_t played, uint8_t decided)
+{
+    return lufanelis_rounds_refusal(answer) == LUFANELIS_ACCEPTED && lufanelis_rounds_played(answer) == played &&
+           lufanelis_rounds_decided(answer) == decided;
+}
+
+static int refuses(uint64_t answer, uint8_t refusal)
+{
+    return lufanelis_rounds_refusal(answer) == refusal && lufanelis_rounds_played(answer) == 0 &&
+           lufanelis_rounds_decided(answer) == 0;
+}
+
+/* A list written as a string of C, on the board of two stations; \377 is LUFANELIS_ROUND_END. */
+static uint64_t rounds_of(uint8_t most, const char *named, size_t length)
+{
+    return lufanelis_rounds(board, sizeof board, most, (const uint8_t *)named, length);
+}
+
+static void rounds(void)
+{
+    HOLDS(lufanelis_lay(board, sizeof board, 2, 2) == LUFANELIS_ACCEPTED);
+    HOLDS(lufanelis_propose(board, sizeof board, 1, 7) == LUFANELIS_ACCEPTED);
+    HOLDS(lufanelis_propose(board, sizeof board, 2, 3) == LUFANELIS_ACCEPTED);
+    HOLDS(plays(rounds_of(0, "", 0), 0, 0));
+    HOLDS(refuses(rounds_of(1, "\377\3", 2), LUFANELIS_BAD_ROUND));
+    HOLDS(refuses(rounds_of(1, "\0", 1), LUFANELIS_BAD_ROUND));
+    HOLDS(refuses(rounds_of(1, "\1\2", 2), LUFANELIS_BAD_ROUND));
+    HOLDS(refuses(rounds_of(2, "\2\1", 2), LUFANELIS_BAD_ROUND));
+    HOLDS(stands(1, LUFANELIS_STANDS_GOING, 0, 7) && stands(2, LUFANELIS_STANDS_GOING, 0, 3));
+    HOLDS(plays(rounds_of(1, "\2\377\2\377\2", 5), 3, 1));
+    HOLDS(stands(1, LUFANELIS_STANDS_DECIDED, 0, 7) && stands(2, LUFANELIS_STANDS_GOING, 0, 3));
+    HOLDS(steps(step(2), LUFANELIS_WROTE, 0, 0, 0));
+    HOLDS(refuses(rounds_of(0, "", 0), LUFANELIS_AMID_COLLECT));
+    HOLDS(refuses(rounds_of(0, "\0", 1), LUFANELIS_AMID_COLLECT));
+    HOLDS(steps(step(2), LUFANELIS_READ, 0, 0, 0));
+    HOLDS(steps(step(2), LUFANELIS_WENT, 0, 0, 7));
+    HOLDS(plays(rounds_of(0, "\377\377\377\377", 4), 4, 2));
+    HOLDS(plays(rounds_of(2, "\1\2\377", 3), 1, 2));
+    HOLDS(refuses(lufanelis_rounds(board, 7, 0, (const uint8_t *)"", 0), LUFANELIS_BOARD_TOO_SHORT));
+}
+
+/* A list of more than 32 bits of length. No byte of it is touched, so that it costs no memory. */
+static void too_many_rounds(void)
+{
+    const size_t longest = 4294967295U;
+    uint8_t *named = (uint8_t *)calloc(longest + 1, 1);
+
+    HOLDS(named != NULL);
+    if (named == NULL)
+        return;
+    HOLDS(lufanelis_rounds(board, sizeof board, 0, named, longest + 1) == LUFANELIS_NOT_PLAYED);
+    HOLDS(lufanelis_rounds(board, 7, 0, named, longest + 1) == LUFANELIS_NOT_PLAYED);
+    HOLDS(refuses(lufanelis_rounds(board, 7, 0, named, longest), LUFANELIS_BOARD_TOO_SHORT));
+    free(named);
+}
+
 /* The longest line that any board has: every station decided on island 63, on a figure of eleven characters. */
 static void shows(void)
 {
@@ -182,6 +245,8 @@ static void words(void)
     uint64_t word = lufanelis_word((const uint8_t *)"(propose 1 2)", 13);
 
     HOLDS(lufanelis_word_start(word) == 1 && lufanelis_word_length(word) == 7);
+    word = lufanelis_word((const uint8_t *)"(rounds 0)", 10);
+    HOLDS(lufanelis_word_start(word) == 1 && lufanelis_word_length(word) == 6);
     word = lufanelis_word((const uint8_t *)"(show", 5);
     HOLDS(lufanelis_word_start(word) == 1 && lufanelis_word_length(word) == 4);
     word = lufanelis_word((const uint8_t *)"(times 1 2)", 11);
@@ -208,6 +273,8 @@ static void lines(void)
     HOLDS(prints(play("(propose 2 -2147483648)", sizeof board), "(proposed 2 -2147483648)", sizeof board));
     HOLDS(prints(play("(show)", sizeof board), "(stations (1 idle) (2 going 0 -2147483648))", sizeof board));
     HOLDS(prints(play("(show)", 4294967295U), "(stations (1 idle) (2 going 0 -2147483648))", 4294967295U));
+    HOLDS(prints(play("(rounds 1 (1) (2) ())", sizeof board), "(played 3 0)", sizeof board));
+    HOLDS(prints(play("(rounds 0 (1))", sizeof board), "(refused 19)", sizeof board));
     HOLDS(prints(play("(show)\n", sizeof board), "(refused 4)", sizeof board));
     HOLDS(prints(play("(board 2 3)", sizeof board), "(refused 10)", sizeof board));
     HOLDS(play("(show)", (size_t)4294967295U + 1) == LUFANELIS_NOT_PLAYED);
@@ -222,6 +289,8 @@ int main(void)
     alone(-1);
     circling();
     runs();
+    rounds();
+    too_many_rounds();
     shows();
     words();
     lines();

@@ -2,10 +2,12 @@
 //! is not needed. `reference` decodes the whole board for every call, so its counts are mostly the price of its shape;
 //! these are the ones that a goal is held against. `bench compare` holds them against `reference` before they are measured.
 
+mod rounds;
 mod sound;
 mod step;
 
 use reference::engine::{Engine, Reference, SHOWN};
+use rounds::rounds;
 use sound::checked;
 use std::io::Write;
 use step::step_on;
@@ -158,6 +160,13 @@ impl Engine for Direct {
         run(board, stations).unwrap_or_else(|refusal| refusal as u64)
     }
 
+    fn rounds(&self, board: &mut [u8], most: u8, named: &mut [u8]) -> u64 {
+        if named.len() > u32::MAX as usize {
+            return u64::MAX;
+        }
+        rounds(board, most, named).unwrap_or_else(|refusal| refusal as u64)
+    }
+
     fn show(&self, board: &mut [u8], line: &mut [u8]) -> u32 {
         if line.len() < SHOWN {
             return u32::MAX;
@@ -165,7 +174,7 @@ impl Engine for Direct {
         show(board, &mut line[..SHOWN]).map_or_else(|refusal| refusal as u32, |length| (length as u32) << 16)
     }
 
-    // Lines of a sheet are not measured here; these two are the other implementation's.
+    // Lines of a sheet are not measured by this one; these two are the other implementation's.
     fn word(&self, line: &mut [u8]) -> u64 {
         Reference.word(line)
     }

@@ -2,13 +2,14 @@
 -- `playSheet`. Relies on the model's sheet; the proof of `next_answer` relies on it, and the program's on `behind`.
 use Rattle.model.proofs.Kit.{_≡_, refl, sym, ap, subst, _∙_, Bool, true, false, cond, List, [], _∷_, _++_, append-assoc}
 use Rattle.model.proofs.Kit.{append-nil, ℕ, zero, suc, _+_, _-_, _≤_, _<_, le-leb, lt-leb, lt-ltb, le-ltb, leb-true}
-use Rattle.model.proofs.Kit.{leb-false, eqb, leb, ltb, length, take, drop, replicate, length-drop, drop-of-length-le}
-use Rattle.model.proofs.Kit.{drop-drop, arith}
+use Rattle.model.proofs.Kit.{leb-false, eqb, leb, ltb, length, take, drop, replicate}
+use Rattle.model.proofs.Kit.{arith}
 use lib.Seq.{take-length}
 use Rattle.bytes.specs.Bytes.{slice, indexOf, indexAfter}
 use Rattle.model.specs.Layout.{boardLength}
 use Rattle.model.specs.Sheet as model
-use Rattle.model.specs.Sheet.{refusedText, onFirst, linesOf, printed, playLine, playSheet}
+use Rattle.model.specs.Sheet.{refusedText, linesOf, printed, playLine, playSheet}
+use Rattle.model.proofs.Basics.Ended.{front, parts-at, no-parts, mark-found, part-taken}
 use Rattle.shown.specs.declared.line.Line.{Line}
 use Rattle.shown.specs.Puts.{Holds, Puts, Room}
 use Rattle.shown.proofs.Putting.{puts-holds}
@@ -21,53 +22,26 @@ use Rattle.answers.specs.Answered.{playAll, SheetPrinted}
 
 -- ---- the line in front
 
-by-lf : {P : Type 0} (b : ℕ) → (eqb b 10 ≡ true → P) → (eqb b 10 ≡ false → P) → P
-by-lf {P = P} b f g = by (eqb b 10) refl
-  where
-    by : (t : Bool) → eqb b 10 ≡ t → P
-    by true e = f e
-    by false e = g e
-
-abbrev FirstLine : List ℕ → Type 0
-FirstLine t = linesOf t ≡ lineIn t ∷ linesOf (drop (suc (length (lineIn t))) t)
-
-lf-first : (b : ℕ) (u : List ℕ) → eqb b 10 ≡ true → FirstLine (b ∷ u)
-unfolding linesOf lineIn
-lf-first b u e = rw e
-
-lf-lacking : (b : ℕ) → eqb b 10 ≡ false → FirstLine (b ∷ [])
-unfolding linesOf lineIn onFirst
-lf-lacking b e = rw e
-
-lf-later : (b : ℕ) (u : List ℕ) → eqb b 10 ≡ false → FirstLine u → FirstLine (b ∷ u)
-unfolding linesOf lineIn onFirst
-lf-later b u e h = rw e (ap (onFirst b) h)
-
-first-line : (b : ℕ) (u : List ℕ) → FirstLine (b ∷ u)
-first-line b [] = by-lf b (lf-first b []) (lf-lacking b)
-first-line b (c ∷ w) = by-lf b (lf-first b (c ∷ w)) (λ e. lf-later b (c ∷ w) e (first-line c w))
-
-some-line : (t : List ℕ) → 0 < length t → FirstLine t
-some-line [] h = absurd (omega arith)
-some-line (b ∷ u) h = first-line b u
+line-front : (t : List ℕ) → lineIn t ≡ front 10 t
+unfolding lineIn front
+line-front [] = refl
+line-front (b ∷ u) = ap (λ (l : List ℕ). cond (eqb b 10) [] (b ∷ l)) (line-front u)
 
 -- the line that starts at `at`, and the lines behind its LF
 lines-at : (s : List ℕ) (at : ℕ) → at < length s
     → linesOf (drop at s) ≡ lineIn (drop at s) ∷ linesOf (drop (at + length (lineIn (drop at s)) + 1) s)
-lines-at s at h =
-    some-line (drop at s) (simp length-drop (omega arith))
-    ∙ ap (λ (t : List ℕ). lineIn (drop at s) ∷ linesOf t)
-    (drop-drop (suc (length (lineIn (drop at s)))) at s ∙ ap (λ (k : ℕ). drop k s) lf)
-  where
-    lf : at + suc (length (lineIn (drop at s))) ≡ at + length (lineIn (drop at s)) + 1
-    lf = omega arith
+lines-at s at h = rw (line-front (drop at s)) (parts-at 10 s at h)
 
 -- it ends where the first LF is found
-lf-found : (t : List ℕ) → (length (lineIn t) ≡ indexOf 10 t) × (lineIn t ≡ take (indexOf 10 t) t)
-unfolding lineIn indexOf indexAfter
-lf-found [] = (refl, refl)
-lf-found (b ∷ u) =
-    by-lf b (λ e. rw e (refl, refl)) (λ e. rw e (ap suc (lf-found u .0), ap (λ (t : List ℕ). b ∷ t) (lf-found u .1)))
+lf-found : (t : List ℕ) → length (lineIn t) ≡ indexOf 10 t
+unfolding indexOf indexAfter
+lf-found t = ap length (line-front t) ∙ mark-found 10 (indexOf 10) refl (λ b s e. rw e) (λ b s e. rw e) t .0
+
+line-taken : (s : List ℕ) (at end : ℕ) → end ≡ at + indexOf 10 (drop at s)
+    → take (end - at) (drop at s) ≡ lineIn (drop at s)
+unfolding indexOf indexAfter
+line-taken s at end e =
+    sym (line-front (drop at s) ∙ part-taken 10 (indexOf 10) refl (λ b s e. rw e) (λ b s e. rw e) s at end e)
 
 -- ---- the answer, case by case
 
@@ -133,21 +107,15 @@ module _ (s : List ℕ) (at laid : ℕ) (m : List ℕ) where
       (record {
         line = puts-holds q (playLine laid m (lineIn (drop at s)) .printed) (plays .line);
         laid = plays .laid;
-        next = omega (arith, place, lf-found (drop at s) .0);
+        next = omega (arith, place, lf-found (drop at s));
         memory = plays .memory;
       })
     where
       place : end ≡ at + indexOf 10 (drop at s)
       place = e ∙ ap (λ (t : List ℕ). at + indexOf 10 (drop at t)) (take-length s)
 
-      width : end - at ≡ indexOf 10 (drop at s)
-      width = omega (arith, place)
-
-      taken : take (end - at) (drop at s) ≡ lineIn (drop at s)
-      taken = ap (λ (k : ℕ). take k (drop at s)) width ∙ sym (lf-found (drop at s) .1)
-
       plays : Plays (playLine laid m (lineIn (drop at s))) r d
-      plays = subst (λ (t : List ℕ). Plays (playLine laid m t) r d) taken p
+      plays = subst (λ (t : List ℕ). Plays (playLine laid m t) r d) (line-taken s at end place) p
 
 -- room for the LF
 pub refused-room : (line : Line) → Holds line (refusedText 1) → Room line (10 ∷ [])
@@ -174,11 +142,11 @@ module _ (s : List ℕ) (laid : ℕ) (m : List ℕ) where
   left-long at h l = rw (lt-leb (length s) 32768 h, lt-ltb at (length s) l)
 
   left-none : (at : ℕ) → length s ≤ at → leftOf s at laid m ≡ []
-  unfolding leftOf printed linesOf
+  unfolding leftOf printed
   left-none at h = by (leb (length s) 32768) refl
     where
       by : (t : Bool) → leb (length s) 32768 ≡ t → leftOf s at laid m ≡ []
-      by true e = rw e (ap (λ (t : List ℕ). printed laid m (linesOf t)) (drop-of-length-le s h))
+      by true e = rw e (ap (printed laid m) (no-parts 10 s at h))
       by false e = rw (e, le-ltb at (length s) h)
 
 -- at the start it is all that the sheet prints

@@ -1,4 +1,5 @@
 -- Laws over plain variables, one subject a file.
 pub mod Board
+pub mod Rounds
 pub mod Listed
 pub mod LentLines

@@ -2,15 +2,25 @@
 -- is handed back answers with the number for a buffer that is too short.
 -- Relies on the packing's definitions; nothing relies on it but the reader of an answer.
 use Rattle.model.proofs.Kit.{_≡_, List, ℕ, suc, _≤_, _<_, _/_, _%_, length, arith}
+use Rattle.model.specs.declared.RoundsVerdict.{RoundsVerdict}
+use Rattle.model.specs.declared.RoundsVerdict.the-variants as byRound
 use Rattle.model.specs.Calls.{ran}
+use Rattle.model.specs.Rounds.{played}
 use Rattle.model.specs.Show.{show}
 use Rattle.model.specs.Sheet.{playLine}
 use Rattle.player.specs.declared.line.Played.{Played}
 use Rattle.player.specs.Played.{Plays}
-use Rattle.packing.specs.Packing.{packedAt, packed, packedStanding, packVerdict, packRun, packWord}
+use Rattle.packing.specs.Packing.{packedAt, packed, packedStanding, packVerdict, packRun, packRounds}
+use Rattle.packing.specs.Packing.{packWord, FewRounds}
+use Rattle.model.specs.Told.{roundsTold}
 use Rattle.capi.specs.LentLines.{packShow, packPlayed}
 use Rattle.capi.proofs.Laws.Listed.{listed, listed-high}
 use Rattle.capi.proofs.Laws.LentLines.{shown-fits, line-laid}
+
+-- what the types of the code's answer say: the stations decided and a refusal's number are bytes
+unfoldable pub Bytes : RoundsVerdict → Type 0
+Bytes (byRound.Played r d) = d < 256
+Bytes (byRound.Refused k) = k < 256
 
 -- a step's four parts; the code's kind and island, or flag, are bytes
 pub step-parts : (number kind field figure : ℕ) → number < 256 → kind < 256 → field < 256
@@ -32,6 +42,18 @@ pub run-parts : (s t : ℕ) → s ≤ 65536
     → let r : ℕ = packRun (ran s t) in (r % 256 ≡ 0) × (r / 256 % 16777216 ≡ s) × (r / 4294967296 ≡ t)
 unfolding packRun
 run-parts s t h = omega arith
+
+-- rounds that were played, beside no refusal's number; the code's number of decided stations is a byte
+pub rounds-parts : (r d : ℕ) → d < 256
+    → let s : ℕ = packRounds (played r d) in (s % 256 ≡ 0) × (s / 256 % 256 ≡ d) × (s / 65536 ≡ r)
+unfolding packRounds
+rounds-parts r d h = omega arith
+
+-- and no answer of a call that was made is all ones
+pub rounds-never-all-ones : (w : RoundsVerdict) → FewRounds w → Bytes w → packRounds (roundsTold w) < 18446744073709551615
+unfolding packRounds FewRounds Bytes roundsTold
+rounds-never-all-ones (byRound.Played r d) f b = omega arith
+rounds-never-all-ones (byRound.Refused k) f b = omega arith
 
 -- ---- a shown line's answer
 

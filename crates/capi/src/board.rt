@@ -3,8 +3,11 @@
 ghost use mathlib.Core.Path.{_≡_};
 ghost use mathlib.Core.Option.{none};
 ghost use Rattle.model.specs.Calls.{boardRefusal, lay, propose, step, run};
+ghost use Rattle.model.specs.Rounds.{lentRounds, rounds};
 ghost use Rattle.model.specs.Standing.{standing};
-ghost use Rattle.packing.specs.Packing.{packVerdict, packStep, packRun, packStanding};
+ghost use Rattle.packing.specs.Packing.{packVerdict, packStep, packRun, packRounds, packStanding};
+ghost use Rattle.capi.specs.LentLines.{countable};
+use packing::rounds_number;
 use packing::run_number;
 use packing::standing_number;
 use packing::step_number;
@@ -43,6 +46,20 @@ pub extern "C" fn lufanelis_run(board: &mut [u8], stations: &[u8]) -> u64
     ensures { λ r. ⌜ (r ≡ packRun (run (now (stations .entry)) (now (board .entry)) .answer)) × (now (board .exit) ≡ run (now (stations .entry)) (now (board .entry)) .bytes) ⌝ }
 {
     run_number(calls::run(board, stations))
+}
+
+// The number for a call that cannot be made: no other case gives it.
+const NOT_PLAYED: u64 = 0xFFFFFFFFFFFFFFFF;
+
+#[no_mangle]
+pub extern "C" fn lufanelis_rounds(board: &mut [u8], most: u8, named: &[u8]) -> u64
+    ensures { λ r. ⌜ (r ≡ countable (now (named .entry)) (packRounds (rounds most (lentRounds (now (named .entry))) (now (board .entry)) .answer)) 18446744073709551615)
+        × (now (board .exit) ≡ countable (now (named .entry)) (rounds most (lentRounds (now (named .entry))) (now (board .entry)) .bytes) (now (board .entry))) ⌝ }
+{
+    if 4294967295 < named.len() {
+        return NOT_PLAYED;
+    }
+    rounds_number(calls::rounds(board, most, named))
 }
 
 #[no_mangle]

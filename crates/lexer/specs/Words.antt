@@ -6,12 +6,12 @@ use mathlib.Core.Option.{Option, none, some}
 use Prim.Native.Nat.{ℕ, _+_, _≤_, _<_, _-_}
 use lib.ListN.{length, take, drop}
 use denote.Ref.{RefT}
-use Rattle.model.specs.Forms.{WordRow, boardRow, proposeRow, stepsRow, showRow, upToStop, behind, Reading, reads}
-use Rattle.model.specs.Forms.{unread, orFour}
+use Rattle.model.specs.Forms.{WordRow, boardRow, proposeRow, stepsRow, showRow, roundsRow, upToStop, behind}
+use Rattle.model.specs.Forms.{Reading, reads, unread, orFour}
 use Rattle.lexer.specs.declared.word.FoundWord.{FoundWord}
 use Rattle.lexer.specs.declared.word.FoundWord.the-variants.{At, Refused}
 use Rattle.lexer.specs.declared.word.FormWord.{FormWord}
-use Rattle.lexer.specs.declared.word.FormWord.the-variants.{Board, Propose, Steps, Show}
+use Rattle.lexer.specs.declared.word.FormWord.the-variants.{Board, Propose, Steps, Show, Rounds}
 use Rattle.lexer.specs.declared.word.Named.{Named}
 use Rattle.lexer.specs.declared.word.Named.the-variants.{Form, Nothing}
 
@@ -21,6 +21,7 @@ wordRow Board = boardRow
 wordRow Propose = proposeRow
 wordRow Steps = stepsRow
 wordRow Show = showRow
+wordRow Rounds = roundsRow
 
 unfoldable pub namedRow : Named → Option WordRow
 namedRow (Form w) = some (wordRow w)

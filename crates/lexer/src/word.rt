@@ -12,6 +12,7 @@ pub enum FormWord {
     Propose,
     Steps,
     Show,
+    Rounds,
 }
 
 pub enum Named {
@@ -82,6 +83,11 @@ pub fn form_named(word: &[u8]) -> Named
     if same(word, b"show") {
         return Named::Form {
             word: FormWord::Show,
+        };
+    }
+    if same(word, b"rounds") {
+        return Named::Form {
+            word: FormWord::Rounds,
         };
     }
     Named::Nothing

@@ -1,6 +1,8 @@
 -- From bytes to values: the state that a board stands for, the calls on it, lists of calls, and the sequential run.
 pub mod View
 pub mod Single
+pub mod WholeSteps
+pub mod SettledAgain
 pub mod Lists
 pub mod RunCalls
 pub mod Along

@@ -6,5 +6,6 @@ pub mod CallsKeep
 pub mod Refused
 pub mod Local
 pub mod Runs
+pub mod Rounds
 pub mod Accepted
 pub mod Claims

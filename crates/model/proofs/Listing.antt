@@ -6,6 +6,7 @@ pub mod Written
 pub mod Order
 pub mod Met
 pub mod Page
+pub mod Rows
 pub mod OneRead
 pub mod Moves
 pub mod Tells

@@ -2,7 +2,7 @@
 -- Relies on the definitions alone.
 use Rattle.model.proofs.Kit.{refl}
 use Rattle.model.specs.Starred.{Starred, Holds, rows, sheet, asLines, layIn}
-use Rattle.model.specs.Bytes.{number, digits, part, splice, zeros, every, implies}
+use Rattle.model.specs.Bytes.{number, digits, part, splice, zeros, every, count, implies, onFirst, endedBy}
 use Rattle.model.specs.Figure.{figure, figureBytes, sameFigure, above, figures}
 use Rattle.model.specs.Listing.{array, placeArray, placeColumn, accepted, outcome, entry, proposed, stay, onward}
 use Rattle.model.specs.Listing.{finish, ended, larger, pairAbove, add, see, move}
@@ -21,16 +21,19 @@ use Rattle.model.specs.Calls.{unless, ranges, shapeRefusal, stations, is
 use Rattle.model.specs.Calls.{stationAt, unlessRefused, lay, putRecord}
 use Rattle.model.specs.Calls.{putRegister, notIdle, propose, notGoing, access, stepped, stepOn, step, ranFrom}
 use Rattle.model.specs.Calls.{run}
+use Rattle.model.specs.Rounds.{names, inTurn, roundSteps, roundsSteps, settled, allSettled, rising, roundKnown}
+use Rattle.model.specs.Rounds.{roundsKnown, roundsRefusal, standsDecided, decidedOn, playedTo, rounds}
 use Rattle.model.specs.Standing.{standingOf}
 use Rattle.model.specs.Show.{textFrom, text, decimalIn, decimal, signed, worded, standingText, status, statuses}
 use Rattle.model.specs.Show.{shownLine, shownAs, show}
 use Rattle.model.specs.Forms.{repeated, expandItem, expand, found, andThen, spaced, digit, digitsFrom, natural}
 use Rattle.model.specs.Forms.{numberIn, figureIn}
 use Rattle.model.specs.Forms.{behind, timesIn, itemIn, itemsIn, same, closing, wordRows, boardRow, proposeRow}
-use Rattle.model.specs.Forms.{stepsRow, showRow, rowIn}
+use Rattle.model.specs.Forms.{stepsRow, showRow, listIn, stationsIn, roundIn, roundsIn, roundsRow, rowIn}
 use Rattle.model.specs.Forms.{upToStop, firstWord, wordPlace, formIn, one, tooDeep, orFour, readLine}
-use Rattle.model.specs.Sheet.{refusedText, orRefused, laidText, proposedText, ranText, shownText, turnedDown}
-use Rattle.model.specs.Sheet.{playBoard, onBoard, playForm, playReading, playLine, onFirst, linesOf, printed}
+use Rattle.model.specs.Sheet.{refusedText, orRefused, laidText, proposedText, ranText, playedText, shownText}
+use Rattle.model.specs.Sheet.{turnedDown}
+use Rattle.model.specs.Sheet.{playBoard, onBoard, playForm, playReading, playLine, printed}
 use Rattle.model.specs.Sheet.{playSheet}
 
 pub starred : Starred
@@ -45,7 +48,9 @@ unfolding Starred Holds rows sheet asLines layIn number digits part splice zeros
     unlessRefused lay putRecord putRegister notIdle propose notGoing access stepped stepOn step ranFrom run textFrom
     text decimalIn decimal signed worded standingText standingOf status statuses shownLine shownAs show repeated
     expandItem expand found andThen spaced digit digitsFrom natural numberIn figureIn behind timesIn itemIn itemsIn
-    same closing wordRows boardRow proposeRow stepsRow showRow rowIn upToStop firstWord wordPlace formIn one tooDeep
+    same closing wordRows boardRow proposeRow stepsRow showRow roundsRow rowIn upToStop firstWord wordPlace formIn one tooDeep
     orFour readLine refusedText orRefused laidText proposedText ranText shownText turnedDown playBoard onBoard
-    playForm playReading playLine onFirst linesOf printed playSheet outcome ranges
-starred = (refl, (refl, (refl, (refl, (refl, (refl, (refl, (refl, (refl, (refl, (refl, tt)))))))))))
+    playForm playReading playLine onFirst endedBy printed playSheet outcome ranges
+    count listIn stationsIn roundIn roundsIn names inTurn roundSteps roundsSteps settled allSettled rising roundKnown
+    roundsKnown roundsRefusal standsDecided decidedOn playedTo rounds playedText
+starred = (refl, (refl, (refl, (refl, (refl, (refl, (refl, (refl, (refl, (refl, (refl, (refl, tt))))))))))))

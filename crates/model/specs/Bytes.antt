@@ -1,7 +1,7 @@
 -- Lists of bytes: numbers of several bytes, tests that compute, and the one way in which bytes change.
 -- Relies on Kit; every other definition relies on it.
-use Rattle.model.specs.Kit.{Bool, true, not, _&&_, _||_, List, [], _∷_, _++_, ℕ, zero, suc, _+_, _*_, _/_, _%_}
-use Rattle.model.specs.Kit.{eqb, length, getD, take, drop}
+use Rattle.model.specs.Kit.{Bool, true, not, _&&_, _||_, cond, List, [], _∷_, _++_, ℕ, zero, suc, _+_, _*_, _/_}
+use Rattle.model.specs.Kit.{_%_, eqb, length, getD, take, drop}
 
 -- byte i of a list, and 0 past its end
 abbrev pub byte : List ℕ → ℕ → ℕ
@@ -35,6 +35,21 @@ unfoldable pub every : ℕ → (ℕ → Bool) → Bool
 every zero f = true
 every (suc k) f = every k f && f k
 
+-- how many of the numbers below k pass the test f
+unfoldable pub count : ℕ → (ℕ → Bool) → ℕ
+count zero f = 0
+count (suc k) f = count k f + cond (f k) 1 0
+
 -- where the first test passes, so does the second
 unfoldable pub implies : Bool → Bool → Bool
 implies a b = not a || b
+
+-- Bytes in parts: each part ends at the mark, the last may lack it, and nothing after a final mark is no part.
+unfoldable pub onFirst : ℕ → List (List ℕ) → List (List ℕ)
+onFirst b [] = (b ∷ []) ∷ []
+onFirst b (l ∷ ls) = (b ∷ l) ∷ ls
+
+module _ (mark : ℕ) where
+  unfoldable pub endedBy : List ℕ → List (List ℕ)
+  endedBy [] = []
+  endedBy (b ∷ s) = cond (eqb b mark) ([] ∷ endedBy s) (onFirst b (endedBy s))

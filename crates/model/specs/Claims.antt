@@ -14,6 +14,7 @@ use Rattle.model.specs.Listing.{Answer, wrote, read, went, marked, adopt
 use Rattle.model.specs.Listing.{placeArray, placeColumn, move}
 use Rattle.model.specs.Layout.{registerOf, recordOf, stationOf}
 use Rattle.model.specs.Calls.{After, notRun, stations, islands, boardRefusal, lay, propose, step, run}
+use Rattle.model.specs.Rounds.{notPlayed, rounds}
 
 -- ---- "A refusal answers its number only and changes no byte."
 
@@ -22,6 +23,8 @@ pub record Unaltered : Type 0 where
   pub proposing : (i : ℕ) (v : Figure) (b : List ℕ) (k : ℕ) → propose i v b .answer ≡ some k → propose i v b .bytes ≡ b
   pub stepping : (i : ℕ) (b : List ℕ) → accepted (step i b .answer) ≡ false → step i b .bytes ≡ b
   pub running : (is b : List ℕ) (k : ℕ) → run is b .answer ≡ notRun k → run is b .bytes ≡ b
+  pub playing : (k : ℕ) (rs : List (List ℕ)) (b : List ℕ) (number : ℕ) → rounds k rs b .answer ≡ notPlayed number
+      → rounds k rs b .bytes ≡ b
 
 -- ---- "A board that keeps all this is *sound*; accepted calls keep it so."
 
@@ -35,6 +38,7 @@ pub record KeepSound : Type 0 where
   pub proposing : (i : ℕ) (v : Figure) → SFits w32 v → (b : List ℕ) → Passes b → Passes (propose i v b .bytes)
   pub stepping : (i : ℕ) (b : List ℕ) → Passes b → Passes (step i b .bytes)
   pub running : (is b : List ℕ) → Passes b → Passes (run is b .bytes)
+  pub playing : (k : ℕ) (rs : List (List ℕ)) (b : List ℕ) → Passes b → Passes (rounds k rs b .bytes)
 
 -- ---- "on a sound board, reached from a fresh one or not, its answer and the bytes it alters follow from n, K, the
 -- station's own record .. and, where it reads, that one register"

@@ -6,7 +6,7 @@ use mathlib.Core.List.{map}
 use Rattle.model.specs.Calls.{ran, boardRefusal}
 use Rattle.model.specs.Show.{text}
 use Rattle.model.specs.Forms.{Form, station, times, Items, done, next, board, propose, steps, show, Reading}
-use Rattle.model.specs.Forms.{reads, unread, readLine}
+use Rattle.model.specs.Forms.{rounds, reads, unread, readLine}
 use Rattle.model.specs.Sheet.{ranText, turnedDown, playLine}
 
 -- what `(steps (times k 1))` holds
@@ -74,6 +74,22 @@ rows =
     ∷ record { line = text "(steps (times 0 1))"; reading = unread 4 }
     ∷ record { line = text "(steps (times 99999 1))"; reading = reads (steps (timesOne 99999)) }
     ∷ record { line = text "(steps (times 100000 1))"; reading = unread 4 }
+    -- 02: "`(rounds k (2) () ..)`", "k is 0 to 99, and there may be no round"
+    ∷ record { line = text "(rounds 0)"; reading = reads (rounds 0 []) }
+    ∷ record { line = text "(rounds 99 (2) ())"; reading = reads (rounds 99 ((2 ∷ []) ∷ [] ∷ [])) }
+    ∷ record { line = text "(rounds 1 (0 99 3))"; reading = reads (rounds 1 ((0 ∷ 99 ∷ 3 ∷ []) ∷ [])) }
+    ∷ record { line = text "(rounds)"; reading = unread 4 }
+    ∷ record { line = text "(rounds )"; reading = unread 4 }
+    ∷ record { line = text "(rounds 100)"; reading = unread 4 }
+    ∷ record { line = text "(rounds 01)"; reading = unread 4 }
+    ∷ record { line = text "(rounds 1 (100))"; reading = unread 4 }
+    ∷ record { line = text "(rounds 1 ( ))"; reading = unread 4 }
+    ∷ record { line = text "(rounds 1 (1 ))"; reading = unread 4 }
+    ∷ record { line = text "(rounds 1 ()())"; reading = unread 4 }
+    ∷ record { line = text "(rounds 1())"; reading = unread 4 }
+    ∷ record { line = text "(rounds 1 2)"; reading = unread 4 }
+    ∷ record { line = text "(rounds 1 (1 (2)))"; reading = unread 4 }
+    ∷ record { line = text "(rounds 1 ()"; reading = unread 4 }
     -- "The line is none of the forms"
     ∷ record { line = text ""; reading = unread 4 }
     ∷ record { line = text "(show"; reading = unread 4 }

@@ -22,6 +22,8 @@ pub data Form : Type 0 where
   propose : (i : ℕ) → Figure → Form
   steps : Items → Form
   show : Form
+  -- 02: "`(rounds k (2) () ..)` names the stations suspended in each round"
+  rounds : (k : ℕ) → List (List ℕ) → Form
 
 unfoldable pub repeated : (k : ℕ) → List ℕ → List ℕ
 repeated zero l = []
@@ -118,6 +120,31 @@ unfoldable mutual
       cond (eqb (byte l 0) 41) (found done (drop 1 l))
       (andThen (spaced (λ k. itemIn fuel k) l) λ i more. andThen (itemsIn fuel more) λ is rest. found (next i is) rest)
 
+-- ---- lists of one kind of thing, and rounds
+
+-- things, each behind a space, up to the closing bracket; fuel bounds their number
+unfoldable pub listIn : {A : Type 0} → (List ℕ → Option (Read A)) → (fuel : ℕ) → List ℕ → Option (Read (List A))
+listIn one zero l = none
+listIn one (suc fuel) l =
+    cond (eqb (byte l 0) 41) (found [] (drop 1 l))
+    (andThen (spaced one l) λ x more. andThen (listIn one fuel more) λ xs rest. found (x ∷ xs) rest)
+
+-- station numbers behind a first one, up to the closing bracket
+unfoldable pub stationsIn : List ℕ → Option (Read (List ℕ))
+stationsIn l = listIn (numberIn 0 99) (length l + 1) l
+
+-- a round: its station numbers in brackets, `()` an empty one
+unfoldable pub roundIn : List ℕ → Option (Read (List ℕ))
+roundIn l = cond (eqb (byte l 0) 40) (opened (drop 1 l)) none
+  where
+    opened : List ℕ → Option (Read (List ℕ))
+    opened k =
+        cond (eqb (byte k 0) 41) (found [] (drop 1 k))
+        (andThen (numberIn 0 99 k) λ i more. andThen (stationsIn more) λ is rest. found (i ∷ is) rest)
+
+unfoldable pub roundsIn : List ℕ → Option (Read (List (List ℕ)))
+roundsIn l = listIn roundIn (length l + 1) l
+
 -- ---- the forms by their words
 
 -- the bracket that ends the line
@@ -153,8 +180,16 @@ stepsRow = record {
 unfoldable pub showRow : WordRow
 showRow = record { word = text "show"; reader = closing show }
 
+-- `(rounds k (2) () ..)`: "k is 0 to 99, and there may be no round"
+unfoldable pub roundsRow : WordRow
+roundsRow = record {
+  word = text "rounds";
+  reader = λ l. andThen (spaced (numberIn 0 99) l) λ k more.
+      andThen (roundsIn more) λ rs rest. cond (same rest []) (some (rounds k rs)) none;
+}
+
 unfoldable pub wordRows : List WordRow
-wordRows = boardRow ∷ proposeRow ∷ stepsRow ∷ showRow ∷ []
+wordRows = boardRow ∷ proposeRow ∷ stepsRow ∷ showRow ∷ roundsRow ∷ []
 
 -- the row of a word
 unfoldable pub rowIn : List WordRow → (word : List ℕ) → Option WordRow

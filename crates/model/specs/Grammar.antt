@@ -1,11 +1,12 @@
 -- 01's grammar as a writer of forms, and the claims that the reader of Forms reads it and nothing else.
 -- Relies on the forms, texts and numbers; proofs/Sheet/Written.antt and proofs/Sheet/WrittenBack.antt prove the claims.
-use Rattle.model.specs.Kit.{List, [], _++_, some, ℕ, _≤_}
+use Rattle.model.specs.Kit.{List, [], _∷_, _++_, some, ℕ, _≤_}
 use mathlib.Core.Path.{_≡_}
 use mir.Syntax.{w32}
 use mir.Val.{SFits}
 use Rattle.model.specs.Show.{text, decimal, signed}
-use Rattle.model.specs.Forms.{Item, station, times, Items, done, next, Form, board, propose, steps, show, formIn}
+use Rattle.model.specs.Forms.{Item, station, times, Items, done, next, Form, board, propose, steps, show, rounds}
+use Rattle.model.specs.Forms.{formIn}
 
 -- "An item is a station number or `(times k item ..)`", and each item stands behind a space
 unfoldable mutual
@@ -17,12 +18,24 @@ unfoldable mutual
   writtenItems done = []
   writtenItems (next i is) = text " " ++ (writtenItem i ++ writtenItems is)
 
--- "`(board n K)`", "`(propose i v)`", "`(steps item ..)`, perhaps with no item", "`(show)`"
+-- things of one kind, each behind a space
+unfoldable pub writtenList : {A : Type 0} → (A → List ℕ) → List A → List ℕ
+writtenList write [] = []
+writtenList write (x ∷ xs) = text " " ++ (write x ++ writtenList write xs)
+
+-- a round in brackets: "(2)", "()"
+unfoldable pub writtenRound : List ℕ → List ℕ
+writtenRound [] = text "()"
+writtenRound (i ∷ is) = text "(" ++ (decimal i ++ (writtenList decimal is ++ text ")"))
+
+-- "`(board n K)`", "`(propose i v)`", "`(steps item ..)`, perhaps with no item", "`(show)`", and 02's
+-- "`(rounds k (2) () ..)`"
 unfoldable pub written : Form → List ℕ
 written (board n K) = text "(board " ++ (decimal n ++ (text " " ++ (decimal K ++ text ")")))
 written (propose i v) = text "(propose " ++ (decimal i ++ (text " " ++ (signed v ++ text ")")))
 written (steps is) = text "(steps" ++ (writtenItems is ++ text ")")
 written show = text "(show)"
+written (rounds k rs) = text "(rounds " ++ (decimal k ++ (writtenList writtenRound rs ++ text ")"))
 
 -- "at least one item"
 unfoldable pub AtLeastOne : Items → Type 0
@@ -39,12 +52,18 @@ unfoldable mutual
   ItemsInRange done = Unit {0}
   ItemsInRange (next i is) = ItemInRange i × ItemsInRange is
 
+-- each thing of a list is as asked
+unfoldable pub Each : {A : Type 0} → (A → Type 0) → List A → Type 0
+Each P [] = Unit {0}
+Each P (x ∷ xs) = P x × Each P xs
+
 -- "n, K and stations are 0 to 99"; "A figure is a signed 32-bit whole number; its full width is allowed."
 unfoldable pub InRange : Form → Type 0
 InRange (board n K) = (n ≤ 99) × (K ≤ 99)
 InRange (propose i v) = (i ≤ 99) × SFits w32 v
 InRange (steps is) = ItemsInRange is
 InRange show = Unit {0}
+InRange (rounds k rs) = (k ≤ 99) × Each (Each (λ i. i ≤ 99)) rs
 
 -- The reader finds in a written form that form ..
 unfoldable pub ReadsWritten : Type 0

@@ -8,7 +8,9 @@ pub mod Layout
 pub mod Sound
 pub mod Calls
 pub mod Runs
+pub mod Rounds
 pub mod Claims
+pub mod WholeSteps
 pub mod Standing
 pub mod Show
 pub mod Told

@@ -1,13 +1,17 @@
 -- A form played on a board, and a whole run sheet to all that it prints.
 -- Relies on the forms, the calls and the shown line; the starred sheet and the player rely on it.
 use Rattle.model.specs.Kit.{cond, List, [], _∷_, _++_, none, some, ℕ, eqb, leb, length, take, drop, replicate}
+use Rattle.model.specs.Bytes.{endedBy}
 use Rattle.model.specs.Figure.{Figure}
 use Rattle.model.specs.Layout.{boardLength}
 use Rattle.model.specs.Calls as calls
 use Rattle.model.specs.Calls.{After, Refusal, RunAnswer, ran, notRun}
+use Rattle.model.specs.Rounds as byRound
+use Rattle.model.specs.Rounds.{RoundsAnswer}
 use Rattle.model.specs.Show.{text, decimal, signed, Shown}
 use Rattle.model.specs.Show as shows
-use Rattle.model.specs.Forms.{Form, board, propose, steps, show, expand, Reading, reads, unread, readLine}
+use Rattle.model.specs.Forms.{Form, board, propose, steps, show, rounds, expand, Reading, reads, unread}
+use Rattle.model.specs.Forms.{readLine}
 
 -- What a line prints, without its LF; how many bytes of the memory are the board that was laid last, 0 for none; and
 -- the memory afterwards.
@@ -18,7 +22,7 @@ pub record Played : Type 0 where
 
 -- the highest number that a refusal has
 unfoldable pub lastRefusal : ℕ
-lastRefusal = 17
+lastRefusal = 19
 
 -- "A refused line prints `(refused N)`."
 unfoldable pub refusedText : (number : ℕ) → List ℕ
@@ -38,6 +42,11 @@ proposedText i v = text "(proposed " ++ decimal i ++ text " " ++ signed v ++ tex
 unfoldable pub ranText : RunAnswer → List ℕ
 ranText (ran s t) = text "(ran " ++ decimal s ++ text " " ++ decimal t ++ text ")"
 ranText (notRun k) = refusedText k
+
+-- "It prints `(played R D)`" (02)
+unfoldable pub playedText : RoundsAnswer → List ℕ
+playedText (byRound.played r d) = text "(played " ++ decimal r ++ text " " ++ decimal d ++ text ")"
+playedText (byRound.notPlayed k) = refusedText k
 
 unfoldable pub shownText : Shown → List ℕ
 shownText s = orRefused (s .refusal) (take (s .len) (s .line))
@@ -73,6 +82,7 @@ module _ (laid : ℕ) (m : List ℕ) where
   playForm (propose i v) = onBoard (λ a. orRefused a (proposedText i v)) (calls.propose i v)
   playForm (steps is) = onBoard ranText (calls.run (expand is))
   playForm show = onBoard shownText (λ b. record { answer = shows.show b; bytes = b })
+  playForm (rounds k rs) = onBoard playedText (byRound.rounds k rs)
 
   unfoldable pub playReading : Reading Form → Played
   playReading (reads f) = playForm f
@@ -82,13 +92,8 @@ module _ (laid : ℕ) (m : List ℕ) where
   playLine l = playReading (readLine l)
 
 -- "a line ends at LF, the last may lack it, and nothing after a final LF is no line"
-unfoldable pub onFirst : ℕ → List (List ℕ) → List (List ℕ)
-onFirst b [] = (b ∷ []) ∷ []
-onFirst b (l ∷ ls) = (b ∷ l) ∷ ls
-
-unfoldable pub linesOf : List ℕ → List (List ℕ)
-linesOf [] = []
-linesOf (b ∷ s) = cond (eqb b 10) ([] ∷ linesOf s) (onFirst b (linesOf s))
+abbrev pub linesOf : List ℕ → List (List ℕ)
+linesOf s = endedBy 10 s
 
 -- what the lines print one after another, each with an LF
 unfoldable pub printed : (laid : ℕ) (m : List ℕ) → List (List ℕ) → List ℕ

@@ -1,13 +1,15 @@
 -- How the lines of a sheet stand in the list of demand 3, with the claim that demand 3 holds of them, and which
 -- refusals no line prints.
 -- Relies on the sheet and on demand 3; proofs/Sheet/ListOfCalls.antt and proofs/Sheet/Fits.antt prove the claims.
-use Rattle.model.specs.Kit.{cond, List, [], _∷_, _++_, none, ℕ, leb, length, take, replicate}
+use Rattle.model.specs.Kit.{cond, List, [], _∷_, _++_, none, some, ℕ, leb, length, take, replicate}
 use mathlib.Core.Path.{_≡_}
 use mathlib.Core.Logic.{_⊎_}
 use mathlib.Core.List.{map}
 use Rattle.model.specs.Layout.{boardLength}
-use Rattle.model.specs.Calls.{lay}
-use Rattle.model.specs.Forms.{Form, board, propose, steps, show, expand, Reading, reads, unread, readLine}
+use Rattle.model.specs.Calls.{stations, lay}
+use Rattle.model.specs.Rounds.{roundsRefusal, roundsSteps}
+use Rattle.model.specs.Forms.{Form, board, propose, steps, show, rounds, expand, Reading, reads, unread}
+use Rattle.model.specs.Forms.{readLine}
 use Rattle.model.specs.Sheet.{Played, refusedText, playBoard, playLine, linesOf}
 use Rattle.model.specs.AnyList.{Call, proposing, stepping, after, Demand3}
 
@@ -15,12 +17,15 @@ use Rattle.model.specs.AnyList.{Call, proposing, stepping, after, Demand
 
 -- "A sheet's line stands in the list as the single calls it makes; a show alters nothing." The calls are those on the
 -- board that the line is lent. A `steps` line that is turned down with 6 makes none. An accepted `board` begins another
--- list, and a refused one is not lent the laid board.
+-- list, and a refused one is not lent the laid board. 02, of a `rounds` line: "each round spelled out as its single
+-- steps"; one that is refused makes none.
 unfoldable pub formCalls : (lent : List ℕ) → Form → List Call
 formCalls b (board n K) = []
 formCalls b (propose i v) = proposing i v ∷ []
 formCalls b (steps is) = cond (leb (length (expand is)) 65536) (map stepping (expand is)) []
 formCalls b show = []
+formCalls b (rounds k rs) =
+    elim (roundsRefusal k rs b) [ none ↦ map stepping (roundsSteps (stations b) rs) | some number ↦ [] ]
 
 unfoldable pub callsOf : (lent : List ℕ) → Reading Form → List Call
 callsOf b (reads f) = formCalls b f

@@ -73,6 +73,17 @@ rows =
     "(laid 3 2)" ∷ "(proposed 1 7)" ∷ "(proposed 2 3)" ∷ "(proposed 3 5)" ∷ "(ran 2 0)" ∷ "(ran 24 0)" ∷ "(ran 22 0)"
     ∷ "(stations (1 decided 0 7) (2 decided 1 7) (3 decided 0 7))" ∷ []
     )
+    -- not starred: rounds as 02 has them, in which station 1 collects before station 2 writes and goes on with its own
+    -- 3; 19 for the second of two rounds, with nothing played of the first; 18 before 19
+    ∷ sheet (
+    "(board 3 2)" ∷ "(propose 1 3)" ∷ "(propose 2 7)" ∷ "(rounds 1 ())" ∷ "(show)" ∷ "(rounds 1 (2) (1 2))" ∷ "(steps 1)"
+    ∷ "(rounds 0 (4))" ∷ "(steps (times 3 1))" ∷ "(rounds 2 (1 3) ())" ∷ "(rounds 1 (1) () (3))" ∷ "(show)" ∷ []
+    ) (
+    "(laid 3 2)" ∷ "(proposed 1 3)" ∷ "(proposed 2 7)" ∷ "(played 1 0)"
+    ∷ "(stations (1 going 0 3) (2 going 0 7) (3 idle))"
+    ∷ "(refused 19)" ∷ "(ran 1 0)" ∷ "(refused 18)" ∷ "(ran 3 0)" ∷ "(played 2 1)" ∷ "(played 3 2)"
+    ∷ "(stations (1 decided 0 3) (2 decided 1 3) (3 idle))" ∷ []
+    )
     -- "n = 16, K = 64 laid in 16,904 bytes; in 16,903 gives 10. n = 17 gives 8. K = 1 gives 9."
     ∷ record { gives = layIn 16904 16 64; says = laid 16904 }
     ∷ record { gives = layIn 16903 16 64; says = turnedDown 10 }

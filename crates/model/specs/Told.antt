@@ -8,6 +8,8 @@ use Rattle.model.specs.declared.Verdict.{Verdict}
 use Rattle.model.specs.declared.Verdict.the-variants as verdicts
 use Rattle.model.specs.declared.RunVerdict.{RunVerdict}
 use Rattle.model.specs.declared.RunVerdict.the-variants as runs
+use Rattle.model.specs.declared.RoundsVerdict.{RoundsVerdict}
+use Rattle.model.specs.declared.RoundsVerdict.the-variants as byRound
 use Rattle.model.specs.declared.Standing as standings
 use Rattle.model.specs.declared.Standing.the-variants as standing
 use Rattle.model.specs.declared.StandingAnswer as answers
@@ -16,6 +18,7 @@ use Rattle.model.specs.declared.ShownLine.{ShownLine}
 use Rattle.model.specs.Figure.{Figure}
 use Rattle.model.specs.Listing.{Answer, wrote, read, went, marked, adopted, decided, spent, refused}
 use Rattle.model.specs.Calls.{Refusal, RunAnswer, ran, notRun}
+use Rattle.model.specs.Rounds.{RoundsAnswer, played, notPlayed}
 use Rattle.model.specs.Standing.{Standing, stands-idle, stands-going, stands-decided, stands-spent}
 use Rattle.model.specs.Standing.{StandingAnswer, stands, notTold}
 use Rattle.model.specs.Show.{Shown}
@@ -40,6 +43,11 @@ verdict (verdicts.Refused k) = some k
 unfoldable pub runTold : RunVerdict → RunAnswer
 runTold (runs.Ran s t) = ran s t
 runTold (runs.Refused k) = notRun k
+
+-- 02: "rounds played, and all stations that stand decided on the board at the line's end"
+unfoldable pub roundsTold : RoundsVerdict → RoundsAnswer
+roundsTold (byRound.Played r d) = played r d
+roundsTold (byRound.Refused k) = notPlayed k
 
 -- how a station stands, and that or the refusal's number
 unfoldable pub standingTold : standings.Standing → Standing

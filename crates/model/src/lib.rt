@@ -48,6 +48,12 @@ pub enum RunVerdict {
     Refused { number: u8 },
 }
 
+// What a call by the round answers: the rounds played and all stations that stand decided, or the refusal's number.
+pub enum RoundsVerdict {
+    Played { rounds: usize, decided: u8 },
+    Refused { number: u8 },
+}
+
 // How a station stands: idle, or going, decided or spent with its island and the figure that it carries.
 pub enum Standing {
     Idle,

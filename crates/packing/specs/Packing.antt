@@ -6,9 +6,12 @@ use mir.Syntax.{w32}
 use mir.Val.{ofZ}
 use Rattle.model.specs.declared.RunVerdict.{RunVerdict}
 use Rattle.model.specs.declared.RunVerdict.the-variants.{Ran, Refused}
+use Rattle.model.specs.declared.RoundsVerdict.{RoundsVerdict}
+use Rattle.model.specs.declared.RoundsVerdict.the-variants as byRound
 use Rattle.model.specs.Figure.{Figure}
 use Rattle.model.specs.Listing.{Answer, wrote, read, went, marked, adopted, decided, spent, refused}
 use Rattle.model.specs.Calls.{Refusal, RunAnswer, ran, notRun}
+use Rattle.model.specs.Rounds.{RoundsAnswer, played, notPlayed}
 use Rattle.model.specs.Standing.{stands-idle, stands-going, stands-decided, stands-spent, StandingAnswer, stands}
 use Rattle.model.specs.Standing.{notTold}
 
@@ -49,6 +52,16 @@ Few (Refused k) = Unit {0}
 unfoldable pub packRun : RunAnswer → ℕ
 packRun (ran s t) = s * 256 + t * 4294967296
 packRun (notRun k) = k
+
+-- the rounds have room in their bits; so has the number of decided stations, which is a byte
+unfoldable pub FewRounds : RoundsVerdict → Type 0
+FewRounds (byRound.Played r d) = r ≤ 4294967295
+FewRounds (byRound.Refused k) = Unit {0}
+
+-- bits 0 to 7 the refusal's number, 0 for rounds that were played, 8 to 15 the stations decided, 16 to 47 the rounds
+unfoldable pub packRounds : RoundsAnswer → ℕ
+packRounds (played r d) = d * 256 + r * 65536
+packRounds (notPlayed k) = k
 
 -- of a station, bits 8 to 11 are how it stands, 12 to 19 the island; 20 to 31 are kept free
 abbrev pub packedStanding : (number kind island figure : ℕ) → ℕ

@@ -3,9 +3,11 @@
 ghost use mathlib.Core.Path.{_≡_};
 ghost use Prim.Native.Nat.{_≤_};
 ghost use Rattle.model.specs.Standing.{stands};
-ghost use Rattle.model.specs.Told.{told, verdict, runTold, standingTold, standingAnswered};
-ghost use Rattle.packing.specs.Packing.{bits, packedAt, packVerdict, packStep, packRun, packStanding, packWord, Few};
+ghost use Rattle.model.specs.Told.{told, verdict, runTold, roundsTold, standingTold, standingAnswered};
+ghost use Rattle.packing.specs.Packing.{bits, packedAt, packVerdict, packStep, packRun, packRounds, packStanding};
+ghost use Rattle.packing.specs.Packing.{packWord, Few, FewRounds};
 use figures::bits_of;
+use model::RoundsVerdict;
 use model::RunVerdict;
 use model::Standing;
 use model::StandingAnswer;
@@ -57,6 +59,16 @@ pub fn run_number(answer: RunVerdict) -> u64
     match answer {
         RunVerdict::Refused { number } => number as u64,
         RunVerdict::Ran { taken, passed } => taken as u64 * 256 + passed as u64 * 4294967296,
+    }
+}
+
+pub fn rounds_number(answer: RoundsVerdict) -> u64
+    requires { ⌜ FewRounds answer ⌝ }
+    ensures { λ r. ⌜ r ≡ packRounds (roundsTold answer) ⌝ }
+{
+    match answer {
+        RoundsVerdict::Refused { number } => number as u64,
+        RoundsVerdict::Played { rounds, decided } => decided as u64 * 256 + rounds as u64 * 65536,
     }
 }
 

@@ -5,7 +5,7 @@ use mathlib.Core.Path.{_≡_}
 use mathlib.Core.List.{List}
 use Prim.Native.Nat.{ℕ, _<_}
 use lib.ListN.{length}
-use Rattle.model.specs.Forms.{Items, steps, reads, readLine}
+use Rattle.model.specs.Forms.{Items, steps, rounds, reads, readLine}
 use Rattle.model.specs.Sheet as model
 use Rattle.shown.specs.Puts.{Holds}
 use Rattle.player.specs.declared.line.Played.{Played}
@@ -24,3 +24,9 @@ TurnsDown k laid r = (m : List ℕ) → Plays (model.turnedDown laid m k) r m
 unfoldable pub PlaysSteps : (line : List ℕ) (laid : ℕ) (m : List ℕ) → Played → List ℕ → Type 0
 PlaysSteps line laid m r d =
     (is : Items) → readLine line ≡ reads (steps is) → Plays (model.playForm laid m (steps is)) r d
+
+-- and one that was read as `rounds`
+unfoldable pub PlaysRounds : (line : List ℕ) (laid : ℕ) (m : List ℕ) → Played → List ℕ → Type 0
+PlaysRounds line laid m r d =
+    (k : ℕ) (rs : List (List ℕ)) → readLine line ≡ reads (rounds k rs)
+    → Plays (model.playForm laid m (rounds k rs)) r d

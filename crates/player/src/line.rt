@@ -1,22 +1,26 @@
 // One line of a run sheet on a lent memory: refusals 2 to 6, then the call's own, and the printed line by value.
-// Relies on the reader of lines, the run of items, the calls and the lines they print; the answers of a sheet and the C
+// Relies on the reader of lines, the run of items, the play of rounds, the calls and the lines they print; the answers of a sheet and the C
 // interface rely on it.
 ghost use mathlib.Core.Path.{_≡_};
 ghost use Prim.Native.Nat.{min};
 ghost use Rattle.model.specs.Forms as forms;
 ghost use Rattle.model.specs.Sheet.{playLine, playForm};
 ghost use Rattle.line_run.specs.LineRuns.{LineCounts};
-ghost use Rattle.player.specs.Played.{Plays, TurnsDown, PlaysSteps};
+ghost use Rattle.line_rounds.specs.LineRounds.{LineHas};
+ghost use Rattle.player.specs.Played.{Plays, TurnsDown, PlaysSteps, PlaysRounds};
 use calls::lay;
 use calls::propose;
 use calls::show;
 use codec::places::board_length;
+use line_rounds::play_rounds_line;
 use line_run::run_line;
+use model::RoundsVerdict;
 use model::RunVerdict;
 use model::Verdict;
 use sheet::form::LineForm;
 use sheet::form::read_line;
 use shown::answer::laid_line;
+use shown::answer::played_line;
 use shown::answer::proposed_line;
 use shown::answer::ran_line;
 use shown::answer::refused_line;
@@ -98,6 +102,31 @@ fn play_steps(memory: &mut [u8], laid: usize, line: &[u8], at: usize, count: u32
     }
 }
 
+fn play_rounds(
+    memory: &mut [u8],
+    laid: usize,
+    line: &[u8],
+    at: usize,
+    rounds: usize,
+    needs: u8,
+) -> Played
+    requires { ⌜ LineHas (now line) at rounds needs ⌝ }
+    ensures { λ r. ⌜ PlaysRounds (now (line .entry)) laid (now (memory .entry)) r (now (memory .exit)) ⌝ }
+{
+    if laid == 0 {
+        return turned_down(5, laid);
+    }
+    let part = least(laid, memory.len());
+    let played = play_rounds_line(&mut memory[..part], line, at, rounds, needs);
+    match played {
+        RoundsVerdict::Refused { number } => turned_down(number, laid),
+        RoundsVerdict::Played { rounds, decided } => Played {
+            line: played_line(rounds as u32, decided as u32),
+            laid,
+        },
+    }
+}
+
 fn play_show(memory: &[u8], laid: usize) -> Played
     ensures { λ r. ⌜ Plays (playForm laid (now (memory .entry)) forms.show) r (now (memory .entry)) ⌝ }
 {
@@ -131,5 +160,8 @@ pub fn play_line(line: &[u8], laid: usize, memory: &mut [u8]) -> Played
         LineForm::Propose { station, figure } => play_proposal(memory, laid, station, figure),
         LineForm::Steps { at, count } => play_steps(memory, laid, line, at, count),
         LineForm::Show => play_show(memory, laid),
+        LineForm::Rounds { at, rounds, needs } => {
+            play_rounds(memory, laid, line, at, rounds, needs)
+        }
     }
 }

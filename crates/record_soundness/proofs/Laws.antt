@@ -1,6 +1,5 @@
 -- The laws by what they are about, from tests to the records.
 pub mod Chains
-pub mod Loops
 pub mod Clauses
 pub mod Held
 pub mod Own

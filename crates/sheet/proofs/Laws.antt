@@ -2,6 +2,8 @@
 pub mod Times
 pub mod Items
 pub mod Depth
+pub mod Lists
+pub mod Rounds
 pub mod Forms
 pub mod WholeLine
 pub mod Readings

@@ -24,10 +24,14 @@ abbrev pub CountedInside : List ℕ → (at : ℕ) → Counted → Type 0
 CountedInside line at (Steps c next) = (at < next) × (next ≤ length line) × (c ≤ 65537)
 CountedInside line at (Refused k) = Unit {0}
 
+-- what was read, as f tells of it
+unfoldable pub readAs : {A B : Type 0} → (A → B) → Option (Read A) → Option (Read B)
+readAs f none = none
+readAs f (some r) = found (f (r .value)) (r .rest)
+
 -- what was read, by the steps that it expands to
-unfoldable pub sized : {A : Type 0} → (A → List ℕ) → Option (Read A) → Option (Read ℕ)
-sized steps none = none
-sized steps (some r) = found (capped (length (steps (r .value)))) (r .rest)
+abbrev pub sized : {A : Type 0} → (A → List ℕ) → Option (Read A) → Option (Read ℕ)
+sized steps o = readAs (λ a. capped (length (steps a))) o
 
 -- the number of "(times k ", with the place after it
 pub record TimesIs (line : List ℕ) (at : ℕ) (r : FoundNumber) : Type 0 where

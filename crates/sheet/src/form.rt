@@ -1,13 +1,15 @@
 // A line to its form, or to refusal 2, 3 or 4.
-// Relies on the lexer's words and numbers and on items; the player of a line relies on it.
+// Relies on the lexer's words and numbers, on items and on rounds; the player of a line relies on it.
 ghost use mathlib.Core.Path.{_≡_};
 ghost use Prim.Native.Nat.{_≤_};
 ghost use lib.ListN.{length, drop};
-ghost use Rattle.model.specs.Forms.{boardRow, proposeRow, stepsRow, showRow, wordPlace, formIn, tooDeep, same, orFour, readLine};
+ghost use Rattle.model.specs.Forms.{boardRow, proposeRow, stepsRow, showRow, roundsRow, wordPlace, formIn, tooDeep, same, orFour, readLine};
 ghost use Rattle.model.specs.Show.{text};
 ghost use Rattle.sheet.specs.LineForms.{lineForm};
 use crate::item::Counted;
 use crate::item::items;
+use crate::rounds::Listed;
+use crate::rounds::round_list;
 use lexer::number::FoundFigure;
 use lexer::number::FoundNumber;
 use lexer::number::spaced_figure;
@@ -17,13 +19,15 @@ use lexer::word::Named;
 use lexer::word::first_word;
 use lexer::word::form_named;
 
-// A form with its numbers. The items of `steps` stay in the line, from the place `at` on; `count` is how many steps they stand
-// for, 65,537 for any number above 65,536.
+// A form with its numbers. The items of `steps` stay in the line, from the place `at` on; `count` is how many steps
+// they stand for, 65,537 for any number above 65,536. So do the number and the rounds of `rounds`: there are `rounds`
+// of them, and a board must have `needs` stations for them, 255 for rounds that no board takes.
 pub enum LineForm {
     Board { n: u8, k: u8 },
     Propose { station: u8, figure: i32 },
     Steps { at: usize, count: u32 },
     Show,
+    Rounds { at: usize, rounds: usize, needs: u8 },
     Refused { number: u8 },
 }
 
@@ -132,6 +136,29 @@ fn show_form(line: &[u8], at: usize) -> LineForm
     LineForm::Refused { number: 4 }
 }
 
+fn rounds_form(line: &[u8], at: usize) -> LineForm
+    ensures { λ r. ⌜ r ≡ lineForm at (orFour (roundsRow .reader (drop at (now (line .entry))))) ⌝ }
+{
+    let FoundNumber::At {
+        value: k,
+        next: first,
+    } = spaced_number(line, at)
+    else {
+        return LineForm::Refused { number: 4 };
+    };
+    let Listed::At { count, needs, next } = round_list(line, first, k as u8) else {
+        return LineForm::Refused { number: 4 };
+    };
+    if next < line.len() {
+        return LineForm::Refused { number: 4 };
+    }
+    LineForm::Rounds {
+        at,
+        rounds: count,
+        needs,
+    }
+}
+
 fn form(line: &[u8]) -> LineForm
     ensures { λ r. ⌜ r ≡ lineForm (wordPlace (now (line .entry))) (orFour (formIn (now (line .entry)))) ⌝ }
 {
@@ -145,6 +172,7 @@ fn form(line: &[u8]) -> LineForm
         FormWord::Propose => propose_form(line, at),
         FormWord::Steps => steps_form(line, at),
         FormWord::Show => show_form(line, at),
+        FormWord::Rounds => rounds_form(line, at),
     }
 }
 

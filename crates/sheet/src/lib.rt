@@ -1,5 +1,6 @@
 // The reader of a run sheet's line: refusals 2 to 4, and the form that the line is.
-// Relies on the model's forms and on the lexer; the run of items and the player of a line rely on it. Nothing here
-// knows the board.
+// Relies on the model's forms, on what rounds ask of a board and on the lexer; the run of items and the player of a
+// line rely on it. Nothing here knows the board.
 pub mod form;
 pub mod item;
+pub mod rounds;

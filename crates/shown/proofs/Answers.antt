@@ -4,13 +4,14 @@ use Rattle.model.proofs.Kit.{_≡_, sym, subst, List, [], _∷_, _++_, append-a
 use Rattle.model.specs.Figure.{Figure}
 use Rattle.model.specs.Show.{text, textFrom, decimal, signed}
 use Rattle.model.specs.Calls.{ran}
-use Rattle.model.specs.Sheet.{refusedText, laidText, proposedText, ranText}
+use Rattle.model.specs.Rounds.{played}
+use Rattle.model.specs.Sheet.{refusedText, laidText, proposedText, ranText, playedText}
 use Rattle.shown.specs.declared.line.Line.{Line}
 use Rattle.shown.specs.Puts.{Holds, Puts, Room}
 use Rattle.shown.specs.Texts.{twoNumbers}
 use Rattle.shown.proofs.Putting.{puts-then, puts-holds}
 use Rattle.shown.proofs.Rooms.{Rooms, rooms, rooms-three, rooms-four, holds-room, room-same}
-use Rattle.shown.proofs.Bounds.{refused-short, laid-short, proposed-short, ran-short}
+use Rattle.shown.proofs.Bounds.{refused-short, laid-short, proposed-short, ran-short, played-short}
 
 -- ---- two numbers
 
@@ -51,6 +52,10 @@ ran-is : (s t : ℕ) → text "(ran " ++ twoNumbers s t ≡ ranText (ran s t)
 unfolding ranText twoNumbers
 ran-is s t = two-behind (text "(ran ") (decimal s) (text " ") (decimal t) (text ")")
 
+played-is : (r d : ℕ) → text "(played " ++ twoNumbers r d ≡ playedText (played r d)
+unfolding playedText twoNumbers
+played-is r d = two-behind (text "(played ") (decimal r) (text " ") (decimal d) (text ")")
+
 -- ---- the lines, put together in an empty one
 
 module _ {none : Line} (h : Holds none []) where
@@ -63,6 +68,9 @@ module _ {none : Line} (h : Holds none []) where
 
   pub ran-room : (s t : ℕ) → Room none (text "(ran " ++ twoNumbers s t)
   ran-room s t = room-two (text "(ran ") (ranText (ran s t)) s t (ran-is s t) (ran-short s t)
+
+  pub played-room : (r d : ℕ) → Room none (text "(played " ++ twoNumbers r d)
+  played-room r d = room-two (text "(played ") (playedText (played r d)) r d (played-is r d) (played-short r d)
 
   module _ {a : Line} (k : ℕ) (p : Puts none (text "(refused ") a) where
     refused-rooms : Rooms none (text "(refused ") (decimal k) (text ")") [] []
@@ -111,6 +119,10 @@ module _ {none : Line} (h : Holds none []) where
 
     pub holds-ran : (s t : ℕ) → Puts none (text "(ran ") a → Puts a (twoNumbers s t) r → Holds r (ranText (ran s t))
     holds-ran s t p q = subst (Holds r) (ran-is s t) (puts-holds (puts-then p q) [] h)
+
+    pub holds-played : (n d : ℕ) → Puts none (text "(played ") a → Puts a (twoNumbers n d) r
+        → Holds r (playedText (played n d))
+    holds-played n d p q = subst (Holds r) (played-is n d) (puts-holds (puts-then p q) [] h)
 
     -- z is the figure that the code passed on
     pub holds-proposed : {b d e : Line} (i : ℕ) (v z : Figure) → Puts none (text "(proposed ") a → Puts a (decimal i) b

@@ -10,7 +10,8 @@ use Rattle.model.specs.Layout.{stationOf}
 use Rattle.model.specs.Standing.{standingOf}
 use Rattle.model.specs.Show.{text, textFrom, signed, worded, standingText, status, statuses, shownLine, shownAs}
 use Rattle.model.specs.Calls.{stations, islands, ran}
-use Rattle.model.specs.Sheet.{refusedText, laidText, proposedText, ranText}
+use Rattle.model.specs.Rounds.{played}
+use Rattle.model.specs.Sheet.{refusedText, laidText, proposedText, ranText, playedText}
 use Rattle.model.specs.Told.{verdict, shownTold}
 use Rattle.model.proofs.Board.Good.{GoodStation, GoodStage}
 use Rattle.shown.specs.declared.line.Line.{Line}
@@ -119,3 +120,7 @@ proposed-short i v = simp length-append (omega (arith, length-any i, length-sign
 pub ran-short : (s t : ℕ) → length (ranText (ran s t)) < 512
 unfolding ranText text textFrom
 ran-short s t = simp length-append (omega (arith, length-any s, length-any t))
+
+pub played-short : (r d : ℕ) → length (playedText (played r d)) < 512
+unfolding playedText text textFrom
+played-short r d = simp length-append (omega (arith, length-any r, length-any d))

@@ -7,7 +7,8 @@ use crate::line::write_byte;
 use crate::number::write_decimal;
 use crate::number::write_figure;
 ghost use Rattle.model.specs.Calls.{ran};
-ghost use Rattle.model.specs.Sheet.{refusedText, laidText, proposedText, ranText};
+ghost use Rattle.model.specs.Rounds.{played};
+ghost use Rattle.model.specs.Sheet.{refusedText, laidText, proposedText, ranText, playedText};
 ghost use Rattle.shown.specs.Puts.{Holds, Puts, Room, lineOf};
 ghost use Rattle.shown.specs.Texts.{twoNumbers};
 
@@ -47,6 +48,15 @@ pub fn ran_line(taken: u32, passed: u32) -> Line
     let open = put_word(empty(), b"(ran ");
     let mut bytes = open.bytes;
     let len = write_two(&mut bytes, open.len, taken, passed);
+    Line { bytes, len }
+}
+
+pub fn played_line(rounds: u32, decided: u32) -> Line
+    ensures { λ r. ⌜ Holds r (playedText (played rounds decided)) ⌝ }
+{
+    let open = put_word(empty(), b"(played ");
+    let mut bytes = open.bytes;
+    let len = write_two(&mut bytes, open.len, rounds, decided);
     Line { bytes, len }
 }
 

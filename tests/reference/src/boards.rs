@@ -6,6 +6,15 @@ use crate::random::Random;
 
 /// A board whose every field is drawn within the clauses of soundness, and nothing more.
 pub fn sound(r: &mut Random, n: u8, k: u8) -> Vec<u8> {
+    drawn(r, n, k, &[0, 1, 2, 3, 4, 5, 6, 7, 8])
+}
+
+/// The same, with nobody amid a collect.
+pub fn between_collects(r: &mut Random, n: u8, k: u8) -> Vec<u8> {
+    drawn(r, n, k, &[0, 1, 1, 3, 3, 5, 5, 7, 8])
+}
+
+fn drawn(r: &mut Random, n: u8, k: u8, phases: &[u8]) -> Vec<u8> {
     let width = n as usize;
     let mut f = Fields {
         n,
@@ -20,7 +29,8 @@ pub fn sound(r: &mut Random, n: u8, k: u8) -> Vec<u8> {
     f.a.all.iter_mut().for_each(|c| *c = cell(r, 1, 1));
     f.b.all.iter_mut().for_each(|c| *c = cell(r, 2, 1));
     for who in 0..width {
-        f.records[who] = record(r, who, n, k);
+        let phase = r.pick(phases);
+        f.records[who] = record(r, who, n, k, phase);
         own(&mut f, who);
     }
     f.to_bytes()
@@ -34,8 +44,7 @@ fn cell(r: &mut Random, marks: u8, islands: u8) -> Cell {
     Cell { mark, island: r.below(islands as usize) as u8, zeros: [0; 2], figure: r.figure() }
 }
 
-fn record(r: &mut Random, who: usize, n: u8, k: u8) -> Record {
-    let phase = r.below(9) as u8;
+fn record(r: &mut Random, who: usize, n: u8, k: u8, phase: u8) -> Record {
     if phase == 0 {
         return Record::default();
     }

@@ -2,6 +2,7 @@
 //! bytes are written only once the values are known.
 
 use crate::bytes::{fields, length, values, Fields};
+use crate::halts::Halts;
 use crate::model::{Answer, Standing, World};
 use crate::refusal::Refusal;
 use crate::sound::sound;
@@ -82,6 +83,20 @@ pub fn run(board: &mut [u8], stations: &[u8]) -> Result<(usize, usize), Refusal>
     let taken = stations.iter().filter(|s| world.place(**s).and_then(|who| world.step(who)).is_ok()).count();
     closed(board, &world);
     Ok((taken, stations.len() - taken))
+}
+
+/// Rounds played, and all stations that stand decided afterwards. No round is played before all were looked at.
+pub fn rounds(board: &mut [u8], halts: &Halts) -> Result<(usize, usize), Refusal> {
+    let mut world = opened(board)?;
+    if world.amid_collect() {
+        return Err(Refusal::AmidCollect);
+    }
+    if !halts.fit(world.stations.len()) {
+        return Err(Refusal::BadRound);
+    }
+    halts.rounds.iter().for_each(|suspended| world.round(suspended));
+    closed(board, &world);
+    Ok((halts.rounds.len(), world.decided()))
 }
 
 /// What `show` says of one station, to that station.

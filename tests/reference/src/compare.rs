@@ -1,5 +1,5 @@
 //! One call on the engine and on the reference: the answer and every byte of every lent buffer afterwards, on refusals
-//! too. `rounds` says which calls are made, on which boards.
+//! too. `batches` says which calls are made, on which boards.
 
 use crate::engine::{Engine, Reference};
 use crate::lent::Lent;
@@ -13,6 +13,8 @@ pub enum Call<'a> {
     Step(u8),
     Standing(u8),
     Run(&'a [u8]),
+    /// At most so many stations in a round, and the list of those that are suspended.
+    Rounds(u8, &'a [u8]),
     /// With room for so many bytes.
     Show(usize),
     Word(&'a [u8]),
@@ -25,11 +27,12 @@ pub struct Counts {
     pub calls: u64,
     pub single_steps: u64,
     pub run_steps: u64,
+    pub rounds: u64,
     pub standings: u64,
     pub lines: u64,
     pub words: u64,
     /// How often each refusal was the answer of a call on a board; at 0 the accepted calls.
-    pub refusals: [u64; 18],
+    pub refusals: [u64; 20],
 }
 
 pub struct Compare<'a> {
@@ -48,7 +51,7 @@ const TOLD: usize = 12;
 /// What a call is lent beside the board.
 #[derive(Clone, PartialEq, Eq)]
 struct Beside {
-    /// Only to read: a list of stations, or a line of a sheet.
+    /// Only to read: a list of stations or of rounds, or a line of a sheet.
     list: Lent,
     /// To write: the line that is shown or printed.
     line: Lent,
@@ -64,6 +67,7 @@ fn answer(engine: &dyn Engine, call: Call, board: &mut Lent, beside: &mut Beside
         Call::Step(i) => engine.step(board, i),
         Call::Standing(i) => engine.standing(board, i),
         Call::Run(_) => engine.run(board, list),
+        Call::Rounds(most, _) => engine.rounds(board, most, list),
         Call::Show(_) => engine.show(board, line) as u64,
         Call::Word(_) => engine.word(list),
         Call::Line(_, laid, _) => engine.play_line(list, laid, board, line),
@@ -75,7 +79,7 @@ fn answer(engine: &dyn Engine, call: Call, board: &mut Lent, beside: &mut Beside
 fn alters(call: Call, answer: u64, beside: &Beside) -> (bool, bool) {
     let accepted = answer & 0xFF == 0;
     match call {
-        Call::Lay(..) | Call::Propose(..) | Call::Step(_) | Call::Run(_) => (accepted, false),
+        Call::Lay(..) | Call::Propose(..) | Call::Step(_) | Call::Run(_) | Call::Rounds(..) => (accepted, false),
         Call::Check | Call::Standing(_) | Call::Word(_) => (false, false),
         Call::Show(_) => (false, accepted),
         Call::Line(..) => {
@@ -105,6 +109,7 @@ fn difference(ours: &Lent, theirs: &Lent, our_beside: &Beside, their_beside: &Be
 fn name(call: Call) -> String {
     match call {
         Call::Run(stations) if stations.len() > 40 => format!("Run of {} steps", stations.len()),
+        Call::Rounds(most, named) if named.len() > 80 => format!("Rounds of {} bytes, at most {most}", named.len()),
         Call::Word(text) => format!("Word of {}", text.escape_ascii()),
         Call::Line(text, laid, room) => format!("{} with {laid} laid and room for {room}", text.escape_ascii()),
         _ => format!("{call:?}"),
@@ -123,7 +128,7 @@ impl<'a> Compare<'a> {
         Compare { engine, counts: Counts::default(), passed: 0, failed: 0, told: vec![], patterns }
     }
 
-    fn verdict(&mut self, same: bool, tell: impl FnOnce() -> String) {
+    pub fn verdict(&mut self, same: bool, tell: impl FnOnce() -> String) {
         if same {
             self.passed += 1;
             return;
@@ -136,7 +141,7 @@ impl<'a> Compare<'a> {
 
     fn beside(&mut self, call: Call) -> Beside {
         let (list, room): (&[u8], usize) = match call {
-            Call::Run(stations) => (stations, 0),
+            Call::Run(list) | Call::Rounds(_, list) => (list, 0),
             Call::Show(room) => (&[], room),
             Call::Word(text) => (text, 0),
             Call::Line(text, _, room) => (text, room),
@@ -187,6 +192,7 @@ impl<'a> Compare<'a> {
             Call::Step(_) if refusal == 0 => self.counts.single_steps += 1,
             Call::Standing(_) => self.counts.standings += 1,
             Call::Run(_) => self.counts.run_steps += answer >> 8 & 0xFF_FFFF,
+            Call::Rounds(..) => self.counts.rounds += answer >> 16,
             _ => {}
         }
     }

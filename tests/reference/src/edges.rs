@@ -1,5 +1,7 @@
 //! Sheets that stand at the edges which the document names, each with a name.
 
+use crate::round_edges;
+
 pub struct Edge {
     pub name: &'static str,
     pub sheet: Vec<u8>,
@@ -62,6 +64,7 @@ pub fn edges() -> Vec<Edge> {
     all.extend(spellings());
     all.extend(bytes());
     all.extend(starred());
+    all.extend(round_edges::edges());
     all
 }
 
@@ -188,7 +191,9 @@ fn spellings() -> Vec<Edge> {
 fn bytes() -> Vec<Edge> {
     let mut out = Vec::new();
     for pattern in [["", ""], ["(", "show)"], ["(show", ")"], ["(show)", ""], ["", "(show)"], ["(steps", "1)"],
-        ["(steps ", ")"], ["(steps 1", ")"], ["(steps (times 2", "1))"], ["(propose 3 ", "1)"], ["(board 2 ", ")"]] {
+        ["(steps ", ")"], ["(steps 1", ")"], ["(steps (times 2", "1))"], ["(propose 3 ", "1)"], ["(board 2 ", ")"],
+        ["(rounds", "1)"], ["(rounds ", ")"], ["(rounds 1", "(1))"], ["(rounds 1 (", "))"], ["(rounds 2 (1", "2))"],
+        ["(rounds 1 (1)", "(2))"], ["(rounds 1 ()", ")"]] {
         let mut sheet = HEAD.as_bytes().to_vec();
         for byte in (0..=255u8).filter(|b| *b != b'\n') {
             sheet.extend(pattern[0].bytes());

@@ -3,6 +3,7 @@
 
 use crate::bytes::mark_byte;
 use crate::calls;
+use crate::halts::Halts;
 use crate::model::{Answer, Standing};
 use crate::refusal::Refusal;
 use crate::sheet;
@@ -21,6 +22,9 @@ pub trait Engine {
     fn standing(&self, board: &mut [u8], station: u8) -> u64;
     /// Bits 0–7 refusal, 8–31 taken, 32–55 passed over.
     fn run(&self, board: &mut [u8], stations: &mut [u8]) -> u64;
+    /// Bits 0–7 refusal, 8–15 stations decided, 16–47 rounds played. All bits are 1 where the list's length has more
+    /// than 32 bits.
+    fn rounds(&self, board: &mut [u8], most: u8, named: &mut [u8]) -> u64;
     /// Bits 0–7 refusal, 16–31 length; the line has zeros after its end. All bits are 1 where it has no room.
     fn show(&self, board: &mut [u8], line: &mut [u8]) -> u32;
     /// Bits 0–31 where the word starts, 32–63 its length; 0 with no word.
@@ -98,6 +102,16 @@ impl Engine for Reference {
         }
     }
 
+    fn rounds(&self, board: &mut [u8], most: u8, named: &mut [u8]) -> u64 {
+        if named.len() > u32::MAX as usize {
+            return u64::MAX;
+        }
+        match calls::rounds(board, &Halts::of_bytes(most, named)) {
+            Ok((played, decided)) => (decided as u64) << 8 | (played as u64) << 16,
+            Err(refusal) => refusal.number() as u64,
+        }
+    }
+
     fn show(&self, board: &mut [u8], line: &mut [u8]) -> u32 {
         if line.len() < SHOWN {
             return u32::MAX;
@@ -144,6 +158,7 @@ mod linked {
         fn lufanelis_step(board: *mut u8, length: usize, station: u8) -> u64;
         fn lufanelis_standing(board: *const u8, length: usize, station: u8) -> u64;
         fn lufanelis_run(board: *mut u8, length: usize, stations: *const u8, count: usize) -> u64;
+        fn lufanelis_rounds(board: *mut u8, length: usize, most: u8, named: *const u8, count: usize) -> u64;
         fn lufanelis_show(board: *const u8, length: usize, line: *mut u8, room: usize) -> u32;
         fn lufanelis_word(line: *const u8, length: usize) -> u64;
         fn lufanelis_play_line(
@@ -183,6 +198,10 @@ mod linked {
 
         fn run(&self, board: &mut [u8], stations: &mut [u8]) -> u64 {
             unsafe { lufanelis_run(board.as_mut_ptr(), board.len(), stations.as_mut_ptr(), stations.len()) }
+        }
+
+        fn rounds(&self, board: &mut [u8], most: u8, named: &mut [u8]) -> u64 {
+            unsafe { lufanelis_rounds(board.as_mut_ptr(), board.len(), most, named.as_mut_ptr(), named.len()) }
         }
 
         fn show(&self, board: &mut [u8], line: &mut [u8]) -> u32 {

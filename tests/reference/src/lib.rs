@@ -2,22 +2,28 @@
 //!
 //! `model` has the two algorithms of the listing on values: a register is an `Option`, a collect is the list of what
 //! was read. `bytes` turns a board of bytes into fields and fields into values, and back. `sound` lists the clauses
-//! of soundness. `calls` are the library's calls, `sheet` the program's. The rest makes boards and sheets to compare.
+//! of soundness, `halts` has the rounds in which stations are suspended. `calls` are the library's calls, `sheet` the
+//! program's. The rest makes boards and sheets to compare.
 
+pub mod batches;
 pub mod boards;
 pub mod bytes;
 pub mod calls;
 pub mod compare;
 pub mod edges;
 pub mod engine;
+pub mod habits;
+pub mod halts;
 pub mod lent;
+pub mod line_batches;
 pub mod lists;
 pub mod model;
 pub mod program;
 pub mod random;
 pub mod reach;
 pub mod refusal;
-pub mod rounds;
+pub mod round_batches;
+pub mod round_edges;
 pub mod sheet;
 pub mod sheets;
 pub mod shorten;

@@ -2,15 +2,19 @@
 
 use crate::bytes::length;
 use crate::calls;
+use crate::habits;
+use crate::halts::Halts;
 use crate::model::Answer;
 use crate::random::Random;
 
-#[derive(Clone, Copy, PartialEq, Eq, Debug)]
+#[derive(Clone, PartialEq, Eq, Debug)]
 pub enum Call {
     /// Only layings that are refused stand in a list.
     Lay(u8, u8),
     Propose(u8, i32),
     Step(u8),
+    /// "A sheet's line stands in the list as the single calls it makes": each round's single steps.
+    Rounds(Halts),
 }
 
 #[derive(Clone, PartialEq, Eq, Debug)]
@@ -41,7 +45,8 @@ pub fn make(seed: u64) -> List {
     let awake = windows(&mut r, n, bursts);
     let figures: Vec<i32> = (0..r.between(1, 3)).map(|_| r.figure()).collect();
     let mut list = List { n, k, calls: vec![] };
-    let whole_rounds = r.once_in(2);
+    let by_rounds = r.once_in(3);
+    let whole_turns = by_rounds || r.once_in(2);
     if n > 1 && r.once_in(4) {
         circle(&mut r, &mut list);
     }
@@ -60,13 +65,17 @@ pub fn make(seed: u64) -> List {
         if at >= gone || (from..to).contains(&at) {
             continue;
         }
-        let count = burst(&mut r, n as usize, whole_rounds);
+        if by_rounds && r.once_in(n as usize) {
+            list.calls.push(Call::Rounds(rounds(&mut r, n)));
+            continue;
+        }
+        let count = burst(&mut r, n as usize, whole_turns);
         list.calls.extend(std::iter::repeat_n(Call::Step(station), count));
     }
     list
 }
 
-/// Two stations that circle over all islands but the last, or but a few: the document's second run, by rounds of a
+/// Two stations that circle over all islands but the last, or but a few: the document's second run, by turns of a
 /// write and a collect. From there on a decision beside a spent station is near.
 fn circle(r: &mut Random, list: &mut List) {
     let high = r.between(1, list.n as usize) as u8;
@@ -75,8 +84,8 @@ fn circle(r: &mut Random, list: &mut List) {
     list.calls.push(Call::Propose(low, 3));
     let islands = list.k as usize - r.pick(&[0, 1, 1, 1, 2]).min(list.k as usize);
     for _ in 0..islands {
-        for (station, rounds) in [(low, 1), (high, 1), (low, 1), (high, 2), (low, 1)] {
-            let steps = rounds * (list.n as usize + 1);
+        for (station, turns) in [(low, 1), (high, 1), (low, 1), (high, 2), (low, 1)] {
+            let steps = turns * (list.n as usize + 1);
             list.calls.extend(std::iter::repeat_n(Call::Step(station), steps));
         }
     }
@@ -94,8 +103,18 @@ fn windows(r: &mut Random, n: u8, bursts: usize) -> Vec<(usize, usize, usize)> {
     out
 }
 
-fn burst(r: &mut Random, n: usize, whole_rounds: bool) -> usize {
-    if whole_rounds && !r.once_in(6) {
+/// A few rounds, most of which can be played if nobody stands amid a collect.
+fn rounds(r: &mut Random, n: u8) -> Halts {
+    let longest = if n > 5 { 1 } else { 4 };
+    if r.once_in(10) {
+        habits::odd(r, n, longest, &[0, n + 1, 99])
+    } else {
+        habits::made(r, n, longest)
+    }
+}
+
+fn burst(r: &mut Random, n: usize, whole_turns: bool) -> usize {
+    if whole_turns && !r.once_in(6) {
         return (n + 1) * r.pick(&[1, 1, 1, 2]);
     }
     match r.below(4) {
@@ -122,21 +141,34 @@ pub fn play(list: &List) -> Vec<Deeds> {
     calls::lay(&mut board, list.n, list.k).expect("the sizes are in range");
     let mut deeds = vec![Deeds::default(); list.n as usize];
     for call in &list.calls {
-        match *call {
-            Call::Lay(n, k) => assert!(calls::lay(&mut board, n, k).is_err()),
+        match call {
+            Call::Lay(n, k) => assert!(calls::lay(&mut board, *n, *k).is_err()),
             Call::Propose(i, v) => {
-                if calls::propose(&mut board, i, v).is_ok() {
-                    deeds[i as usize - 1].proposed = Some(v);
+                if calls::propose(&mut board, *i, *v).is_ok() {
+                    deeds[*i as usize - 1].proposed = Some(*v);
                 }
             }
-            Call::Step(i) => {
-                if let Ok(answer) = calls::step(&mut board, i) {
-                    note(&mut deeds[i as usize - 1], answer);
-                }
-            }
+            Call::Step(i) => step(&mut board, *i, &mut deeds),
+            Call::Rounds(halts) => spelled_out(&mut board, halts, &mut deeds),
         }
     }
     deeds
+}
+
+fn step(board: &mut [u8], station: u8, deeds: &mut [Deeds]) {
+    if let Ok(answer) = calls::step(board, station) {
+        note(&mut deeds[station as usize - 1], answer);
+    }
+}
+
+/// Rounds as their single calls, which leave the board that the rounds leave. Refused rounds make none.
+fn spelled_out(board: &mut [u8], halts: &Halts, deeds: &mut [Deeds]) {
+    let mut whole = board.to_vec();
+    if calls::rounds(&mut whole, halts).is_err() {
+        return;
+    }
+    halts.single_steps(board[0]).iter().for_each(|station| step(board, *station, deeds));
+    assert_eq!(board, whole, "rounds are their single steps");
 }
 
 fn note(deeds: &mut Deeds, answer: Answer) {
@@ -213,6 +245,28 @@ mod tests {
         assert!(verdict(&[did(3, Some(5)), did(4, None)]).unwrap_err().starts_with("validity"));
         let halted = Deeds { stepped: false, ..did(4, None) };
         assert!(verdict(&[did(3, Some(4)), halted]).unwrap_err().starts_with("validity"));
+    }
+
+    /// Rounds are played and refused in the made lists, and some of them decide.
+    #[test]
+    fn some_lists_have_rounds() {
+        let mut played = [0; 20];
+        for list in (0..300).map(make) {
+            let mut board = vec![0; length(list.n, list.k)];
+            calls::lay(&mut board, list.n, list.k).expect("the sizes are in range");
+            for call in &list.calls {
+                match call {
+                    Call::Rounds(halts) => {
+                        let answer = calls::rounds(&mut board, halts);
+                        played[answer.map_or_else(|refusal| refusal.number() as usize, |(_, d)| (d > 0) as usize)] += 1;
+                    }
+                    Call::Propose(i, v) => drop(calls::propose(&mut board, *i, *v)),
+                    Call::Step(i) => drop(calls::step(&mut board, *i)),
+                    Call::Lay(..) => {}
+                }
+            }
+        }
+        assert!(played[0] > 100 && played[1] > 100 && played[18] > 100 && played[19] > 10, "{played:?}");
     }
 
     #[test]

@@ -1,4 +1,4 @@
-//! Why a call is turned down, in checking order.
+//! Why a call is turned down, in checking order; 18 and 19 are tested after 11.
 
 #[derive(Clone, Copy, PartialEq, Eq, Debug)]
 #[repr(u8)]
@@ -20,6 +20,8 @@ pub enum Refusal {
     Decided = 15,
     Spent = 16,
     ShowTooLong = 17,
+    AmidCollect = 18,
+    BadRound = 19,
 }
 
 impl Refusal {

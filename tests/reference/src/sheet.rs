@@ -2,6 +2,7 @@
 
 use crate::bytes::length;
 use crate::calls;
+use crate::halts::Halts;
 use crate::refusal::Refusal;
 
 pub const LONGEST_SHEET: usize = 32_768;
@@ -9,13 +10,14 @@ pub const LONGEST_LINE: usize = 255;
 pub const DEEPEST: i64 = 8;
 
 /// The words that name a form. `times` names an item.
-pub const WORDS: [&[u8]; 4] = [b"board", b"propose", b"steps", b"show"];
+pub const WORDS: [&[u8]; 5] = [b"board", b"propose", b"steps", b"rounds", b"show"];
 
 #[derive(Clone, PartialEq, Eq, Debug)]
 pub enum Form {
     Board(u8, u8),
     Propose(u8, i32),
     Steps(Vec<Item>),
+    Rounds(Halts),
     Show,
 }
 
@@ -39,6 +41,9 @@ fn tree(text: &[u8]) -> Option<(Tree<'_>, &[u8])> {
         let end = text.iter().position(|b| b" ()".contains(b)).unwrap_or(text.len());
         return (end > 0).then(|| (Word(&text[..end]), &text[end..]));
     };
+    if let Some(rest) = inside.strip_prefix(b")") {
+        return Some((List(vec![]), rest));
+    }
     let (first, mut rest) = tree(inside)?;
     let mut list = vec![first];
     while let Some(after) = rest.strip_prefix(b" ") {
@@ -81,6 +86,12 @@ fn items(trees: &[Tree]) -> Option<Vec<Item>> {
     trees.iter().map(item).collect()
 }
 
+/// The stations that a round names: numbers by the grammar, whether or not there are such stations.
+fn round(tree: &Tree) -> Option<Vec<u8>> {
+    let List(list) = tree else { return None };
+    list.iter().map(small).collect()
+}
+
 fn form(line: &[u8]) -> Option<Form> {
     let (List(list), []) = tree(line)? else { return None };
     match list.as_slice() {
@@ -90,6 +101,10 @@ fn form(line: &[u8]) -> Option<Form> {
             Some(Form::Propose(small(i)?, number(v, low, high)? as i32))
         }
         [Word(b"steps"), list @ ..] => Some(Form::Steps(items(list)?)),
+        [Word(b"rounds"), most, list @ ..] => {
+            let rounds = list.iter().map(round).collect::<Option<_>>()?;
+            Some(Form::Rounds(Halts { most: small(most)?, rounds }))
+        }
         [Word(b"show")] => Some(Form::Show),
         _ => None,
     }
@@ -184,6 +199,10 @@ fn called(form: Form, board: &mut [u8]) -> Result<String, Refusal> {
             }
             let (taken, passed) = calls::run(board, &expanded(&items))?;
             Ok(format!("(ran {taken} {passed})"))
+        }
+        Form::Rounds(halts) => {
+            let (played, decided) = calls::rounds(board, &halts)?;
+            Ok(format!("(played {played} {decided})"))
         }
         Form::Show => calls::show(board),
         Form::Board(..) => unreachable!("laying needs no earlier board"),

@@ -1,5 +1,6 @@
 //! Sheets made at random: lines that are forms, and lines that are forms no more.
 
+use crate::habits;
 use crate::random::Random;
 use crate::sheet::{LONGEST_LINE, LONGEST_SHEET};
 
@@ -8,6 +9,8 @@ struct Laid {
     n: usize,
     lines_left: usize,
     soon: Vec<String>,
+    /// Only whole turns are stepped, so that rounds can be played.
+    whole_turns: bool,
 }
 
 /// A sheet with its lines as they were made; the last byte may lack its LF.
@@ -21,7 +24,7 @@ pub fn sheet(seed: u64) -> Vec<u8> {
     let spoil = r.pick(&[0, 0, 0, 4, 12, 40]);
     let heavy = r.once_in(6);
     let mut out = Vec::new();
-    let mut laid = Laid { n: 2, lines_left: 0, soon: vec![] };
+    let mut laid = Laid { n: 2, lines_left: 0, soon: vec![], whole_turns: false };
     for at in 0..lines {
         let mut line =
             if at == 0 && !r.once_in(20) { board(&mut r, &mut laid) } else { form(&mut r, &mut laid, heavy) };
@@ -50,24 +53,30 @@ fn form(r: &mut Random, laid: &mut Laid, heavy: bool) -> Vec<u8> {
             return line.into_bytes();
         }
     }
-    match r.below(10) {
+    let rounds = if laid.whole_turns { 5 } else { 1 };
+    match r.below(10 + rounds) {
         0 => odd_board(r, laid),
         1 | 2 => b"(show)".to_vec(),
         3 => propose(r, laid.n),
-        _ => steps(r, laid.n, heavy),
+        4..10 if laid.whole_turns && !r.once_in(40) => format!("(steps {})", turns(r, laid.n)).into_bytes(),
+        4..10 => steps(r, laid.n, heavy),
+        _ => habits::line(r, laid.n as u8),
     }
 }
 
 fn board(r: &mut Random, laid: &mut Laid) -> Vec<u8> {
     let (n, k) = r.size();
     let soon = if n > 1 && r.once_in(4) { circling(r, n as usize) } else { proposals(r, n as usize) };
-    *laid = Laid { n: n as usize, lines_left: r.between(1, 90), soon };
+    *laid = Laid { n: n as usize, lines_left: r.between(1, 90), soon, whole_turns: r.once_in(3) };
     format!("(board {n} {k})").into_bytes()
 }
 
 /// Every station's proposal, in any order.
 fn proposals(r: &mut Random, n: usize) -> Vec<String> {
-    let mut lines: Vec<String> = (1..=n).map(|i| format!("(propose {i} {})", r.figure())).collect();
+    // One figure above equal ones is what halting habits keep undecided.
+    let one_above = r.once_in(4);
+    let mut figure = |i: usize| if one_above { (i == n) as i32 } else { r.figure() };
+    let mut lines: Vec<String> = (1..=n).map(|i| format!("(propose {i} {})", figure(i))).collect();
     r.shuffle(&mut lines);
     lines
 }
@@ -130,7 +139,7 @@ fn steps(r: &mut Random, n: usize, heavy: bool) -> Vec<u8> {
 fn item(r: &mut Random, n: usize, most: usize, depth: usize) -> String {
     if most > n && depth < 7 && r.once_in(4) {
         let high = r.between(1, n);
-        return if n > 1 && r.once_in(6) { circle(n, high, r.between(1, 4)) } else { rounds(r, n) };
+        return if n > 1 && r.once_in(6) { circle(n, high, r.between(1, 4)) } else { turns(r, n) };
     }
     if depth >= 8 || most < 2 || r.below(5) > 1 {
         return station(r, n).to_string();
@@ -142,8 +151,8 @@ fn item(r: &mut Random, n: usize, most: usize, depth: usize) -> String {
     format!("(times {count} {})", items.join(" "))
 }
 
-/// Whole rounds of one station, a write and a collect each: stations that take turns by rounds meet most often.
-fn rounds(r: &mut Random, n: usize) -> String {
+/// Whole turns of one station, a write and a collect each: stations that take such turns meet most often.
+fn turns(r: &mut Random, n: usize) -> String {
     let count = (n + 1) * r.pick(&[1, 1, 2, 3]);
     format!("(times {count} {})", r.between(1, n))
 }
@@ -229,9 +238,9 @@ fn recase(r: &mut Random, line: &mut [u8]) {
 /// A line of the grammar's own pieces in any order, or of any bytes.
 fn made_up(r: &mut Random) -> Vec<u8> {
     #[rustfmt::skip]
-    const PIECES: [&str; 20] = [
+    const PIECES: [&str; 24] = [
         "(", ")", "(", ")", " ", " ", " ", "1", "2", "0", "-1", "99", "board", "propose", "steps", "show", "times",
-        "(times 2 ", "(steps ", "(board ",
+        "rounds", "(times 2 ", "(steps ", "(board ", "(rounds 1 ", "()", "(1)",
     ];
     let mut out = Vec::new();
     let any = r.once_in(4);

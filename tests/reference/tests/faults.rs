@@ -116,6 +116,11 @@ impl Engine for Faulty {
         answer + if self.is(CountsOneTooMany) && answer & 0xFF == 0 { 0x100 } else { 0 }
     }
 
+    // `round_faults` tries the faults of rounds.
+    fn rounds(&self, board: &mut [u8], most: u8, named: &mut [u8]) -> u64 {
+        Reference.rounds(board, most, named)
+    }
+
     fn show(&self, board: &mut [u8], line: &mut [u8]) -> u32 {
         let kept = line.to_vec();
         let answer = Reference.show(board, line);
@@ -160,12 +165,12 @@ impl Engine for Faulty {
     }
 }
 
-/// Rounds are made until one fails.
+/// Batches are made until one fails.
 fn found(fault: Fault) -> bool {
     let engine = Faulty(fault);
     let mut compare = Compare::new(&engine);
     (0..40).any(|seed| {
-        compare.round(seed);
+        compare.batch(seed);
         compare.failed > 0
     })
 }

@@ -9,7 +9,8 @@ use Rattle.model.specs.Calls as calls
 use Rattle.model.specs.Calls.{After, Refusal, unless, boardRefusal}
 use Rattle.model.specs.Show.{text, textFrom, shownLine, shownAs, Shown, show}
 use Rattle.model.specs.Told.{verdict, shownTold}
-use Rattle.model.specs.Forms.{Form, WordRow, boardRow, proposeRow, stepsRow, showRow, wordRows, rowIn, firstWord}
+use Rattle.model.specs.Forms.{Form, WordRow, boardRow, proposeRow, stepsRow, showRow, roundsRow, wordRows, rowIn}
+use Rattle.model.specs.Forms.{firstWord}
 use Rattle.model.specs.Forms.{formWord}
 use Rattle.model.specs.Forms.{Reading, reads, unread, readLine}
 use Rattle.model.specs.Sheet as model
@@ -17,7 +18,8 @@ use Rattle.model.specs.Sheet.{turnedDown, playBoard, onBoard, playForm, playRea
 use Rattle.model.proofs.Basics.Tests.{cond-case}
 use Rattle.model.proofs.Calls.Refusals.{laid-fresh, refusal-case, unless-none, board-of}
 use Rattle.model.proofs.Sheet.Readers.{Always}
-use Rattle.model.proofs.Sheet.WrittenBack.{Each, row-stood}
+use Rattle.model.specs.Grammar.{Each}
+use Rattle.model.proofs.Sheet.WrittenBack.{row-stood}
 use Rattle.model.proofs.Sheet.PlayedLines.{board-refused, board-lays}
 use Rattle.model.proofs.Sheet.EachForm.{each-form}
 use Rattle.player.specs.declared.line.Played.{Played}
@@ -33,8 +35,8 @@ Short r = length (r .word) ≤ 7
 
 -- "propose" is the longest
 all-short : Each Short wordRows
-unfolding Each Short wordRows boardRow proposeRow stepsRow showRow text textFrom
-all-short = (omega arith, (omega arith, (omega arith, (omega arith, tt))))
+unfolding Each Short wordRows boardRow proposeRow stepsRow showRow roundsRow text textFrom
+all-short = (omega arith, (omega arith, (omega arith, (omega arith, (omega arith, tt)))))
 
 short-word : (l : List ℕ) → length (formWord l) ≤ 7
 unfolding formWord Always Short

@@ -6,11 +6,11 @@ use Rattle.model.proofs.Kit.{drop, length-drop, drop-of-length-le, getD, arith}
 use lib.Seq.{take-suc, drop-cons, getD-drop}
 use Rattle.model.proofs.Basics.Tests.{true-T}
 use Rattle.model.proofs.Sheet.WrittenBack.{same-text}
-use Rattle.model.specs.Forms.{same, boardRow, proposeRow, stepsRow, showRow, wordRows, rowIn, upToStop, firstWord}
-use Rattle.model.specs.Forms.{formWord}
+use Rattle.model.specs.Forms.{same, boardRow, proposeRow, stepsRow, showRow, roundsRow, wordRows, rowIn, upToStop}
+use Rattle.model.specs.Forms.{firstWord, formWord}
 use Rattle.model.specs.Show.{text}
 use Rattle.lexer.specs.declared.word.FormWord.{FormWord}
-use Rattle.lexer.specs.declared.word.FormWord.the-variants.{Board, Propose, Steps, Show}
+use Rattle.lexer.specs.declared.word.FormWord.the-variants.{Board, Propose, Steps, Show, Rounds}
 use Rattle.lexer.specs.declared.word.Named.{Named}
 use Rattle.lexer.specs.declared.word.Named.the-variants.{Form, Nothing}
 use Rattle.lexer.specs.Words.{WordEnd, namedRow}
@@ -167,10 +167,15 @@ module _ (w : List ℕ) where
   unfolding namedRow rowIn wordRows boardRow proposeRow stepsRow showRow
   names-show b p s h = simp (b, p, s, h)
 
+  pub names-rounds : same w (text "board") ≡ false → same w (text "propose") ≡ false → same w (text "steps") ≡ false
+      → same w (text "show") ≡ false → same w (text "rounds") ≡ true → namedRow (Form Rounds) ≡ rowIn wordRows w
+  unfolding namedRow rowIn wordRows boardRow proposeRow stepsRow showRow roundsRow
+  names-rounds b p s h r = simp (b, p, s, h, r)
+
   pub names-nothing : same w (text "board") ≡ false → same w (text "propose") ≡ false → same w (text "steps") ≡ false
-      → same w (text "show") ≡ false → namedRow Nothing ≡ rowIn wordRows w
-  unfolding namedRow rowIn wordRows boardRow proposeRow stepsRow showRow
-  names-nothing b p s h = simp (b, p, s, h)
+      → same w (text "show") ≡ false → same w (text "rounds") ≡ false → namedRow Nothing ≡ rowIn wordRows w
+  unfolding namedRow rowIn wordRows boardRow proposeRow stepsRow showRow roundsRow
+  names-nothing b p s h r = simp (b, p, s, h, r)
 
 -- ---- the word that names the line's form
 

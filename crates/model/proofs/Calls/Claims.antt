@@ -9,6 +9,7 @@ use Rattle.model.proofs.Calls.Refusals.{Board, board-of, board-passes}
 use Rattle.model.proofs.Calls.Refused.{lay-refused, propose-refused, step-refused, run-refused}
 use Rattle.model.proofs.Calls.CallsKeep.{lay-sound, propose-keeps, step-keeps}
 use Rattle.model.proofs.Calls.Runs.{run-keeps}
+use Rattle.model.proofs.Calls.Rounds.{rounds-refused, rounds-keep}
 use Rattle.model.proofs.Calls.Local as laws
 
 passed : (b : List ℕ) → Board b → Passes b
@@ -20,7 +21,13 @@ unfolding Passes
 board b e = board-of b none e .0
 
 pub unaltered : Unaltered
-unaltered = record { laying = lay-refused; proposing = propose-refused; stepping = step-refused; running = run-refused }
+unaltered = record {
+  laying = lay-refused;
+  proposing = propose-refused;
+  stepping = step-refused;
+  running = run-refused;
+  playing = rounds-refused;
+}
 
 pub keep-sound : KeepSound
 unfolding Fits
@@ -29,6 +36,7 @@ keep-sound = record {
   proposing = λ i v f b h. passed _ (propose-keeps i v f b (board b h));
   stepping = λ i b h. passed _ (step-keeps i b (board b h));
   running = λ is b h. passed _ (run-keeps is b (board b h));
+  playing = λ k rs b h. passed _ (rounds-keep k rs b (board b h));
 }
 
 pub local : Local

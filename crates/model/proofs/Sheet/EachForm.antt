@@ -1,23 +1,25 @@
 -- Each form of the sheet once: a form is `board`, or a call on the board that was laid, with all that the sheet's laws
 -- ask of it. Relies on played lines and on what they print; lists of calls, what no line prints and the C interface
 -- rely on `each-form`.
-use Rattle.model.proofs.Kit.{_≡_, refl, sym, ap, _∙_, inl, inr, List, [], _∷_, _++_, map, ℕ, leb}
+use Rattle.model.proofs.Kit.{_≡_, refl, sym, ap, _∙_, inl, inr, List, [], _∷_, _++_, map, none, some, ℕ, leb}
 use Rattle.model.proofs.Kit.{length, take, drop, take-append-drop}
 use Rattle.model.specs.Layout.{boardLength}
 use Rattle.model.specs.Calls.{After, lay, run}
 use Rattle.model.specs.Calls as calls
 use Rattle.model.specs.Show as shows
-use Rattle.model.specs.Forms.{Form, board, propose, steps, show, expand, Reading, reads, unread}
+use Rattle.model.specs.Rounds as byRound
+use Rattle.model.specs.Rounds.{roundsRefusal, roundsSteps}
+use Rattle.model.specs.Forms.{Form, board, propose, steps, show, rounds, expand, Reading, reads, unread}
 use Rattle.model.specs.Grammar.{InRange}
-use Rattle.model.specs.Sheet.{Played, orRefused, proposedText, ranText, shownText, turnedDown, onBoard, playForm}
-use Rattle.model.specs.Sheet.{playReading}
+use Rattle.model.specs.Sheet.{Played, orRefused, proposedText, ranText, playedText, shownText, turnedDown, onBoard}
+use Rattle.model.specs.Sheet.{playForm, playReading}
 use Rattle.model.specs.AnyList.{Call, stepping, called, after, Allowed, AllAllowed}
 use Rattle.model.specs.SheetList.{formCalls, callsOf, Stays, NotMet}
 use Rattle.model.proofs.Basics.Tests.{cond-case}
 use Rattle.model.proofs.Calls.Refusals.{Board, refusal-case}
 use Rattle.model.proofs.Sheet.WrittenBack.{LineStood}
-use Rattle.model.proofs.Sheet.Printed.{propose-says, ran-says, show-says}
-use Rattle.model.proofs.Sheet.PlayedLines.{run-leaves, board-refused, on-board}
+use Rattle.model.proofs.Sheet.Printed.{propose-says, ran-says, rounds-say, show-says}
+use Rattle.model.proofs.Sheet.PlayedLines.{run-leaves, rounds-leave, board-refused, on-board}
 
 -- What the sheet's laws ask of a form that is a call on the board that was laid.
 pub record OnLaid (f : Form) : Type 1 where
@@ -35,6 +37,12 @@ steps-allowed : (is b : List ℕ) → AllAllowed (map stepping is) b
 unfolding AllAllowed Allowed
 steps-allowed [] b = tt
 steps-allowed (i ∷ is) b = (tt, steps-allowed is (called (stepping i) b))
+
+round-calls-allowed : (b is : List ℕ) (r : calls.Refusal)
+    → AllAllowed (elim r [ none ↦ map stepping is | some j ↦ [] ]) b
+unfolding AllAllowed
+round-calls-allowed b is none = steps-allowed is b
+round-calls-allowed b is (some j) = tt
 
 -- What holds of a `board` and of every form that is a call on the board that was laid holds of each form.
 pub each-form : (P : Form → Type 0) → ((n K : ℕ) → P (board n K)) → ((f : Form) → OnLaid f → P f) → (f : Form) → P f
@@ -68,6 +76,15 @@ each-form P lays on show = on show (record {
   leaves = λ b. refl;
   allowed = λ b h. tt;
   says = λ b h. show-says b h;
+})
+each-form P lays on (rounds k rs) = on (rounds k rs) (record {
+  A = byRound.RoundsAnswer;
+  say = playedText;
+  call = byRound.rounds k rs;
+  plays = λ laid m. refl;
+  leaves = rounds-leave k rs;
+  allowed = λ b h. round-calls-allowed b (roundsSteps (calls.stations b) rs) (roundsRefusal k rs b);
+  says = λ b h. rounds-say b h k rs;
 })
 
 -- what a line that was read asks for is allowed in a list

@@ -8,7 +8,7 @@ use Rattle.model.specs.Show.{textFrom, text}
 use Rattle.model.specs.Forms.{Form, times, steps, repeated, expand, found, andThen, spaced, digit, digitsFrom}
 use Rattle.model.specs.Forms.{natural, numberIn, figureIn}
 use Rattle.model.specs.Forms.{behind, timesIn, itemIn, itemsIn, same, closing, boardRow, proposeRow, stepsRow}
-use Rattle.model.specs.Forms.{showRow}
+use Rattle.model.specs.Forms.{showRow, listIn, stationsIn, roundIn, roundsIn, roundsRow}
 use Rattle.model.specs.Forms.{wordRows, rowIn, upToStop, firstWord, wordPlace, formIn, one, tooDeep, Reading}
 use Rattle.model.specs.Forms.{reads, orFour, readLine}
 use Rattle.model.specs.Sheet.{turnedDown, ranText, playReading, playLine}
@@ -34,14 +34,14 @@ length-times-one k =
 
 reads-65536 : readLine (text "(steps (times 65536 1))") ≡ reads (steps (timesOne 65536))
 unfolding timesOne textFrom text unless found andThen spaced digit digitsFrom natural numberIn behind timesIn itemIn
-    itemsIn same wordRows boardRow proposeRow stepsRow showRow rowIn upToStop firstWord wordPlace formIn one tooDeep
-    orFour readLine
+    itemsIn same wordRows boardRow proposeRow stepsRow showRow roundsRow rowIn upToStop firstWord wordPlace formIn one
+    tooDeep orFour readLine
 reads-65536 = refl
 
 reads-65537 : readLine (text "(steps (times 65537 1))") ≡ reads (steps (timesOne 65537))
 unfolding timesOne textFrom text unless found andThen spaced digit digitsFrom natural numberIn behind timesIn itemIn
-    itemsIn same wordRows boardRow proposeRow stepsRow showRow rowIn upToStop firstWord wordPlace formIn one tooDeep
-    orFour readLine
+    itemsIn same wordRows boardRow proposeRow stepsRow showRow roundsRow rowIn upToStop firstWord wordPlace formIn one
+    tooDeep orFour readLine
 reads-65537 = refl
 
 module _ (laid : ℕ) (m : List ℕ) (on : laid ≡ 0 → ⊥) where
@@ -73,6 +73,6 @@ steps-limit laid m on = (λ e. steps-run laid m on (board-of (take laid m) none 
 -- Every row holds.
 pub edges : Edges
 unfolding Edges rows deep timesOne textFrom text unless found andThen spaced digit digitsFrom natural numberIn
-    figureIn behind timesIn itemIn itemsIn same wordRows boardRow proposeRow stepsRow showRow rowIn upToStop firstWord
-    wordPlace closing formIn one tooDeep orFour readLine
+    figureIn behind timesIn itemIn itemsIn listIn stationsIn roundIn roundsIn same wordRows boardRow proposeRow stepsRow
+    showRow roundsRow rowIn upToStop firstWord wordPlace closing formIn one tooDeep orFour readLine
 edges = refl

@@ -8,8 +8,10 @@ use Rattle.model.specs.Layout.{boardLength}
 use Rattle.model.specs.Listing.{refused}
 use Rattle.model.specs.Calls.{After, Refusal, RunAnswer, ran, notRun, unless, boardRefusal, unlessRefused, lay}
 use Rattle.model.specs.Calls.{step, stepOn}
-use Rattle.model.specs.Calls.{ranFrom, run}
+use Rattle.model.specs.Calls.{ranFrom, run, stations}
 use Rattle.model.specs.Calls as calls
+use Rattle.model.specs.Rounds.{roundsRefusal, roundsSteps, playedTo}
+use Rattle.model.specs.Rounds as byRound
 use Rattle.model.specs.Forms.{propose, steps, Items, expand}
 use Rattle.model.specs.Sheet.{Played, refusedText, orRefused, laidText, proposedText, ranText, turnedDown}
 use Rattle.model.specs.Sheet.{playBoard, onBoard}
@@ -19,6 +21,7 @@ use Rattle.model.specs.Runs.{taken, passed, answers}
 use Rattle.model.proofs.Basics.Tests.{cond-case}
 use Rattle.model.proofs.Calls.Refusals.{Board, board-passes, unless-passes, unless-fails, refusal-case}
 use Rattle.model.proofs.Calls.Runs.{run-is}
+use Rattle.model.proofs.Calls.Rounds.{rounds-case}
 use Rattle.model.proofs.Bridge.RunCalls.{ran-calls}
 
 -- ---- runs, refused or not
@@ -73,6 +76,20 @@ module _ (is b : List ℕ) where
       go h (inr e) =
           ap (λ (a : After RunAnswer). a .bytes) (run-turned-down h (e .0) (e .1))
           ∙ sym (steps-refused is b (e .0) (e .1))
+
+-- ---- rounds, refused or not
+
+-- the single calls of a line of rounds
+pub rounds-leave : (k : ℕ) (rs : List (List ℕ)) (b : List ℕ)
+    → byRound.rounds k rs b .bytes
+    ≡ after (elim (roundsRefusal k rs b) [ none ↦ map stepping (roundsSteps (stations b) rs) | some j ↦ [] ]) b
+unfolding playedTo after
+rounds-leave k rs b =
+    rounds-case k rs b (λ a. a .bytes ≡ after (elim (roundsRefusal k rs b) [
+      | none ↦ map stepping (roundsSteps (stations b) rs)
+      | some j ↦ []
+    ]) b)
+    (λ e. rw e (ran-calls (roundsSteps (stations b) rs) b)) (λ j e. rw e)
 
 -- ---- lines
 

@@ -14,11 +14,14 @@ use Rattle.model.specs.Calls as calls
 use Rattle.model.specs.Show.{text, textFrom, shownLine, shownAs}
 use Rattle.model.specs.Show as shows
 use Rattle.model.specs.Forms.{Read, found, digit, natural}
-use Rattle.model.specs.Sheet.{lastRefusal, refusedText, orRefused, proposedText, ranText, shownText}
+use Rattle.model.specs.Rounds.{roundsRefusal, playedTo}
+use Rattle.model.specs.Rounds as byRound
+use Rattle.model.specs.Sheet.{lastRefusal, refusedText, orRefused, proposedText, ranText, playedText, shownText}
 use Rattle.model.specs.SheetList.{LibraryOnly, NotMet}
 use Rattle.model.proofs.Basics.Tests.{and-l}
 use Rattle.model.proofs.Calls.Refusals.{Board, board-passes, call-case}
 use Rattle.model.proofs.Calls.Runs.{ran-is}
+use Rattle.model.proofs.Calls.Rounds.{rounds-case}
 use Rattle.model.proofs.Sheet.Readers.{Always}
 use Rattle.model.proofs.Sheet.Numbers.{Stops, natural-decimal}
 
@@ -126,6 +129,22 @@ module _ (b : List ℕ) (h : Board b) where
 
       turned : (k : ℕ) → Always Other (some k) → NotMet (ranText (notRun k))
       turned k o = unfold ranText Always in refused-prints k o
+
+  pub rounds-say : (k : ℕ) (rs : List (List ℕ)) → NotMet (playedText (byRound.rounds k rs b .answer))
+  unfolding playedTo
+  rounds-say k rs =
+      rounds-case k rs b (λ a. NotMet (playedText (a .answer))) (λ _. counts _ _)
+      (λ j e. turned j (subst (Always Other) e own))
+    where
+      own : Always Other (roundsRefusal k rs b)
+      own = unfold roundsRefusal unmet lastRefusal Always in
+          board-first _ (always-unless _ 18 _ (λ _. other 18 tt) (λ _. always-unless _ 19 none (λ _. other 19 tt) (λ _. tt)))
+
+      counts : (r d : ℕ) → NotMet (playedText (byRound.played r d))
+      counts r d = unfold playedText text textFrom in answer-prints (playedText (byRound.played r d)) (λ e. omega arith)
+
+      turned : (j : ℕ) → Always Other (some j) → NotMet (playedText (byRound.notPlayed j))
+      turned j o = unfold playedText Always in refused-prints j o
 
   pub show-says : NotMet (shownText (shows.show b))
   unfolding shows.show shownText unmet lastRefusal

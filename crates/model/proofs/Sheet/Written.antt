@@ -5,28 +5,17 @@ use Rattle.model.proofs.Kit.{_+_, _≤_, _<_, lit<, length, length-appe
 use Rattle.model.specs.Bytes.{byte}
 use Rattle.model.specs.Show.{textFrom, text, decimalIn, decimal}
 use Rattle.model.specs.Forms.{Item, station, times, Items, done, next, board, propose, steps, show, found, spaced}
-use Rattle.model.specs.Forms.{digit, numberIn}
+use Rattle.model.specs.Forms.{digit, rounds, roundsRow}
 use Rattle.model.specs.Forms.{behind, timesIn, itemIn, itemsIn, same, closing, boardRow, proposeRow, stepsRow}
 use Rattle.model.specs.Forms.{showRow}
 use Rattle.model.specs.Forms.{wordRows, rowIn, upToStop, firstWord, wordPlace, formIn}
 use Rattle.model.specs.Grammar.{writtenItem, writtenItems, written, AtLeastOne, ItemInRange, ItemsInRange}
-use Rattle.model.specs.Grammar.{InRange, ReadsWritten}
+use Rattle.model.specs.Grammar.{writtenRound, InRange, ReadsWritten}
 use Rattle.model.proofs.Sheet.Numbers.{Stops, then-found, digit-not, decimal-begins, number-decimal}
 use Rattle.model.proofs.Sheet.Numbers.{figure-signed}
+use Rattle.model.proofs.Sheet.Lists.{station-read, bracket-stops, space-stops, list-stops, rounds-read}
 
 -- ---- what is read of a written form
-
--- a number of the sheet, 0 to 99
-station-read : (i : ℕ) → i ≤ 99 → (rest : List ℕ) → Stops rest → numberIn 0 99 (decimal i ++ rest) ≡ found i rest
-station-read i h rest s = number-decimal 0 99 i (omega arith) h (lit< tt) rest s
-
-bracket-stops : (rest : List ℕ) → Stops (41 ∷ rest)
-unfolding Stops digit
-bracket-stops rest = refl
-
-space-stops : (rest : List ℕ) → Stops (32 ∷ rest)
-unfolding Stops digit
-space-stops rest = refl
 
 -- items end at a space or at their closing bracket
 items-stop : (is : Items) (rest : List ℕ) → Stops (writtenItems is ++ (41 ∷ rest))
@@ -126,7 +115,7 @@ steps-read is h = then-found _ (items-read is _ (omega (arith, length-append (wr
 pub reads-written : ReadsWritten
 unfolding ReadsWritten written InRange text textFrom formIn firstWord wordPlace upToStop rowIn wordRows boardRow
     proposeRow
-    stepsRow showRow same spaced closing writtenItems
+    stepsRow showRow roundsRow same spaced closing writtenItems
 reads-written (board n K) h =
     then-found _ (station-read n (h .0) _ (space-stops _)) ∙ then-found _ (station-read K (h .1) _ (bracket-stops []))
 reads-written (propose i v) h =
@@ -134,3 +123,5 @@ reads-written (propose i v) h =
 reads-written (steps done) h = steps-read done h
 reads-written (steps (next i is)) h = steps-read (next i is) h
 reads-written show h = refl
+reads-written (rounds k rs) h =
+    then-found _ (station-read k (h .0) _ (list-stops writtenRound rs [])) ∙ then-found _ (rounds-read rs (h .1) [])

@@ -10,14 +10,15 @@ use Rattle.model.specs.Forms.{times, Items, done, next, Form, board, pro
 use Rattle.model.specs.Forms.{spaced}
 use Rattle.model.specs.Forms.{numberIn, figureIn, behind, timesIn, itemIn, itemsIn}
 use Rattle.model.specs.Forms.{same, closing, WordRow, boardRow, proposeRow, stepsRow, showRow, wordRows, rowIn}
-use Rattle.model.specs.Forms.{upToStop}
+use Rattle.model.specs.Forms.{upToStop, rounds, roundsIn, roundsRow}
 use Rattle.model.specs.Forms.{firstWord, wordPlace, formIn, tooDeep, Reading, reads, unread, orFour, readLine}
 use Rattle.model.specs.Grammar.{WrittenReads}
 use Rattle.model.proofs.Basics.Tests.{true-T, and-l, and-r, cond-case}
 use Rattle.model.proofs.Sheet.Readers.{Always, always-map, always-then, always-if}
 use Rattle.model.proofs.Sheet.NumbersBack.{Stood, in-front, spaced-stood, number-stood, figure-stood}
 use Rattle.model.specs.Grammar.{writtenItem, writtenItems, written, AtLeastOne, ItemInRange, ItemsInRange}
-use Rattle.model.specs.Grammar.{InRange}
+use Rattle.model.specs.Grammar.{InRange, writtenList, writtenRound, Each}
+use Rattle.model.proofs.Sheet.Lists.{Stations, ListStood, station-stood, rounds-stood}
 use Rattle.model.proofs.Sheet.Written.{times-regrouped, next-regrouped}
 
 -- ---- items
@@ -115,11 +116,6 @@ same-text [] (b ∷ l) t = absurd t
 same-text (a ∷ k) [] t = absurd t
 same-text (a ∷ k) (b ∷ l) t =
     λ j. eqb→eq a b (and-l (eqb a b) (same k l) t) j ∷ same-text k l (and-r (eqb a b) (same k l) t) j
-
--- what holds of each row of the table of words
-unfoldable pub Each : (WordRow → Type 0) → List WordRow → Type 0
-Each P [] = Unit {0}
-Each P (r ∷ rs) = P r × Each P rs
 
 -- a row that is found has the word, and what holds of each
 pub row-stood : (P : WordRow → Type 0) (rs : List WordRow) (w : List ℕ) → Each P rs
@@ -224,9 +220,29 @@ show-stood = (
   λ k. closes (40 ∷ (text "show" ++ k)) show k (λ e. (ap (λ (x : List ℕ). 40 ∷ (text "show" ++ x)) e, tt)),
 )
 
+rounds-row-stood : RowStood roundsRow
+unfolding RowStood roundsRow FormStood Stood ListStood written InRange text textFrom Always
+rounds-row-stood = (
+  omega arith,
+  λ k. always-then (Stood (λ v. 32 ∷ decimal v) (λ v. v ≤ 99) k) (FormStood (40 ∷ (text "rounds" ++ k)))
+      (spaced (numberIn 0 99) k) _
+      (spaced-stood decimal (λ v. v ≤ 99) (numberIn 0 99) k station-stood)
+      (λ r g. always-then (ListStood writtenRound Stations (r .rest)) (FormStood (40 ∷ (text "rounds" ++ k)))
+      (roundsIn (r .rest)) _ (rounds-stood (r .rest))
+      (λ s h. always-if (FormStood (40 ∷ (text "rounds" ++ k))) (same (s .rest) [])
+      (some (rounds (r .value) (s .value)))
+      (λ e. (
+        ap (λ (x : List ℕ). 40 ∷ (text "rounds" ++ x))
+            (g .0 ∙ ap (λ (x : List ℕ). 32 ∷ (decimal (r .value) ++ x))
+            (h .0 ∙ ap (λ (x : List ℕ). writtenList writtenRound (s .value) ++ (41 ∷ x))
+            (same-text (s .rest) [] (true-T _ e)))),
+        (g .1, h .1),
+      )))),
+)
+
 rows-stood : Each RowStood wordRows
 unfolding Each wordRows
-rows-stood = (board-stood, (propose-stood, (steps-stood, (show-stood, tt))))
+rows-stood = (board-stood, (propose-stood, (steps-stood, (show-stood, (rounds-row-stood, tt)))))
 
 form-stood : (l : List ℕ) → Always (FormStood l) (formIn l)
 unfolding formIn wordPlace RowStood Always

@@ -5,7 +5,9 @@ use Rattle.model.proofs.Kit.{arith}
 use Rattle.model.specs.Figure.{Figure}
 use Rattle.model.specs.declared.RunVerdict.{RunVerdict}
 use Rattle.model.specs.declared.RunVerdict.the-variants.{Ran}
-use Rattle.packing.specs.Packing.{bits, packedAt, packWord, Few}
+use Rattle.model.specs.declared.RoundsVerdict.{RoundsVerdict}
+use Rattle.model.specs.declared.RoundsVerdict.the-variants.{Played}
+use Rattle.packing.specs.Packing.{bits, packedAt, packWord, Few, FewRounds}
 
 -- an answer a is packed as the variant x that it is
 pub packs : {A : Type 0} (f : A → ℕ) (a x : A) (r : ℕ) → a ≡ x → r ≡ f x → r ≡ f a
@@ -31,11 +33,17 @@ pub parts-are : (place kind field : ℕ) (v z : Figure) (w : ℕ) → z ≡ v �
 unfolding packedAt bits
 parts-are place kind field v z w s h = omega (arith, h ∙ ap (ofZ w32) s)
 
--- ---- runs and words
+-- ---- runs, rounds and words
 
 pub counts-fit : (w : RunVerdict) (s t : ℕ) → Few w → w ≡ Ran s t → s * 256 + t * 4294967296 < 18446744073709551616
 unfolding Few
 counts-fit w s t h e = let f : s + t ≤ 65536 = subst Few e h in omega arith
+
+-- beside any number of decided stations, which is a byte
+pub rounds-fit : (w : RoundsVerdict) (r d : ℕ) → FewRounds w → w ≡ Played r d
+    → r * 65536 + 65536 ≤ 281474976710656
+unfolding FewRounds
+rounds-fit w r d h e = let f : r ≤ 4294967295 = subst FewRounds e h in omega arith
 
 pub some-word : (n : ℕ) → (n ≡ 0 → ⊥) → 1 + n * 4294967296 ≡ packWord n
 unfolding packWord

@@ -97,14 +97,14 @@ module _ (laid : ℕ) (m : List ℕ) (n K need part : ℕ) (v : Verdict) (d : Li
 
 module _ {A : Type 0} (laid : ℕ) (m : List ℕ) (printed : A → List ℕ) (call : List ℕ → After A) where
   -- "5. A form other than `board` comes before any accepted `board`."
-  five : (r : Played) → laid ≡ 0 → TurnsDown 5 laid r → Plays (onBoard laid m printed call) r m
+  pub five : (r : Played) → laid ≡ 0 → TurnsDown 5 laid r → Plays (onBoard laid m printed call) r m
   five r e t =
       subst (λ (p : model.Played). Plays p r m) (sym (no-board laid m printed call e)) (turned-plays 5 laid r t m)
 
   module _ (part : ℕ) (a : A) (d : List ℕ) (on : laid ≡ 0 → ⊥) (lent : part ≡ min laid (length m))
       (answer-is : a ≡ call (take part m) .answer) (bytes-are : d ≡ call (take part m) .bytes) where
     -- what the call answered on the lent part is printed as t
-    on-part : (t : List ℕ) (r : Played) → printed a ≡ t → Holds (r .line) t → r .laid ≡ laid → length t < 512
+    pub on-part : (t : List ℕ) (r : Played) → printed a ≡ t → Holds (r .line) t → r .laid ≡ laid → length t < 512
         → Plays (onBoard laid m printed call) r (d ++ drop part m)
     on-part t r et h l short =
         subst (λ (p : model.Played). Plays p r (d ++ drop part m)) (sym (on-board laid m on printed call))
@@ -122,7 +122,7 @@ module _ {A : Type 0} (laid : ℕ) (m : List ℕ) (printed : A → List ℕ) (ca
         says = ap printed (sym (answer-is ∙ ap (λ (b : List ℕ). call b .answer) same)) ∙ et
 
     -- as a refusal
-    on-turned : (k : ℕ) (r : Played) → printed a ≡ refusedText k → TurnsDown k laid r
+    pub on-turned : (k : ℕ) (r : Played) → printed a ≡ refusedText k → TurnsDown k laid r
         → Plays (onBoard laid m printed call) r (d ++ drop part m)
     on-turned k r et t =
         on-part (refusedText k) r et (turned-line k laid r t) (turned-laid k laid r t) (refused-short k)

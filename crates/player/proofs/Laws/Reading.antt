@@ -10,8 +10,9 @@ use Rattle.sheet.specs.declared.form.LineForm.the-variants as lines
 use Rattle.sheet.specs.LineForms.{lineForm}
 use Rattle.sheet.proofs.Laws.Readings.{Tells, read-as}
 use Rattle.line_run.specs.LineRuns.{LineCounts}
+use Rattle.line_rounds.specs.LineRounds.{LineHas}
 use Rattle.player.specs.declared.line.Played.{Played}
-use Rattle.player.specs.Played.{Plays, TurnsDown, PlaysSteps}
+use Rattle.player.specs.Played.{Plays, TurnsDown, PlaysSteps, PlaysRounds}
 use Rattle.player.proofs.Laws.Playing.{turned-plays}
 
 -- f is the form that the code read
@@ -38,6 +39,10 @@ module _ (laid : ℕ) (m line : List ℕ) (f : LineForm) (read : f ≡ lineForm 
   unfolding playReading PlaysSteps
   line-steps at c e h = let s = tells (lines.Steps at c) e in as-read _ (s .1) (h (s .0) (s .1))
 
+  pub line-rounds : (at c s : ℕ) → f ≡ lines.Rounds at c s → PlaysRounds line laid m r d → Plays (playLine laid m line) r d
+  unfolding playReading PlaysRounds
+  line-rounds at c s e h = let t = tells (lines.Rounds at c s) e in as-read _ (t .2) (h (t .0) (t .1) (t .2))
+
   pub line-show : f ≡ lines.Show → Plays (playForm laid m forms.show) r d → Plays (playLine laid m line) r d
   unfolding playReading
   line-show e h = as-read _ (tells lines.Show e) h
@@ -53,3 +58,7 @@ module _ (line : List ℕ) (f : LineForm) (read : f ≡ lineForm (wordPlace line
   pub line-counts : (at c : ℕ) → f ≡ lines.Steps at c → LineCounts line at c
   unfolding LineCounts
   line-counts at c e = sym read ∙ e
+
+  pub line-has : (at c s : ℕ) → f ≡ lines.Rounds at c s → LineHas line at c s
+  unfolding LineHas
+  line-has at c s e = sym read ∙ e

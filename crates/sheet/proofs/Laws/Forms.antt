@@ -1,28 +1,31 @@
--- The forms by their words: what follows `board`, `propose` and `steps`, as the readers of numbers, figures and items
--- found it. Relies on the lexer's Places and Spaced and the model's table of words; the proofs of src/form.rt rely on
--- it.
-use Rattle.model.proofs.Kit.{_≡_, refl, sym, ap, _∙_, Bool, true, false, cond, List, [], none, some, Option, ℕ, _+_}
+-- The forms by their words: what follows `board`, `propose`, `steps` and `rounds`, as the readers of numbers, figures,
+-- items and lists found it. Relies on the lexer's Places and Spaced and the model's table of words; the proofs of
+-- src/form.rt rely on it.
+use Rattle.model.proofs.Kit.{_≡_, sym, ap, _∙_, Bool, true, false, cond, List, [], none, some, Option, ℕ, _+_}
 use Rattle.model.proofs.Kit.{_≤_, _<_, ℤ, length, drop, drop-of-length-le, w8, Fits, arith}
 use Rattle.model.specs.Show.{text}
 use Rattle.model.specs.Forms as forms
-use Rattle.model.specs.Forms.{Items, Read, found, andThen, itemsIn, expand, closing, boardRow, proposeRow, stepsRow}
-use Rattle.model.specs.Forms.{same, reads, orFour}
+use Rattle.model.specs.Forms.{Items, Read, found, andThen, itemsIn, roundIn, roundsIn, expand, closing, boardRow}
+use Rattle.model.specs.Forms.{proposeRow, stepsRow, roundsRow, same, reads, orFour}
 use Rattle.lexer.specs.declared.number.FoundNumber.{FoundNumber}
 use Rattle.lexer.specs.declared.number.FoundNumber.the-variants as numbers
 use Rattle.lexer.specs.declared.number.FoundFigure.{FoundFigure}
 use Rattle.lexer.specs.declared.number.FoundFigure.the-variants as signed
 use Rattle.sheet.specs.declared.item.Counted.{Counted}
 use Rattle.sheet.specs.declared.item.Counted.the-variants as counts
-use Rattle.sheet.specs.declared.form.LineForm.the-variants.{Board, Propose, Steps, Refused}
-use Rattle.model.specs.Forms.{orFour}
+use Rattle.sheet.specs.declared.rounds.Listed.{Listed}
+use Rattle.sheet.specs.declared.rounds.Listed.the-variants as lists
+use Rattle.sheet.specs.declared.form.LineForm.the-variants.{Board, Propose, Steps, Rounds, Refused}
+use Rattle.halts.specs.Needs.{needs}
 use Rattle.lexer.specs.Placed.{SpacedIs, FigureIs}
-use Rattle.sheet.specs.Counts.{countedAt, sized, ItemsAre}
+use Rattle.sheet.specs.Counts.{capped, countedAt, readAs, sized, ItemsAre}
+use Rattle.sheet.specs.Lists.{Summary, summary, listedAt, ListIs}
 use Rattle.sheet.specs.LineForms.{lineForm}
-use Rattle.lexer.proofs.Laws.Given.{never, found-one}
 use Rattle.lexer.proofs.Laws.Places.{here}
 use Rattle.lexer.proofs.Laws.Spaced.{number-missed, number-found, number-inside, figure-missed, figure-found}
 use Rattle.lexer.proofs.Laws.Spaced.{figure-inside}
 use Rattle.sheet.proofs.Laws.Items.{counted-missed, counted-found}
+use Rattle.sheet.proofs.Laws.Lists.{as-none, as-found, listed-missed, listed-found}
 
 -- what the code answers of a form that is missing, and of one that was read
 module _ (at : ℕ) {o : Option forms.Form} where
@@ -114,10 +117,7 @@ module _ (line : List ℕ) (at : ℕ) (first : FoundNumber) (is : SpacedIs line 
           unfolding lineForm
           propose-read h z bits = ap (Propose n) bits ∙ given at (figure-closed-by h)
 
--- ---- items that must reach to the line's end
-
-unfoldable upToEnd : Option (Read Items) → Option forms.Form
-upToEnd o = andThen o λ is rest. cond (same rest []) (some (forms.steps is)) none
+-- ---- what must reach to the line's end
 
 ends : (line : List ℕ) (next : ℕ) → length line ≤ next → same (drop next line) [] ≡ true
 unfolding same
@@ -127,40 +127,85 @@ goes-on : (line : List ℕ) (next : ℕ) → next < length line → same (drop n
 unfolding same
 goes-on line next h = rw (here line next h)
 
-no-items : (at : ℕ) (o : Option (Read Items)) → sized expand o ≡ none → Refused 4 ≡ lineForm at (orFour (upToEnd o))
-unfolding upToEnd andThen sized found orFour lineForm
-no-items at none e = refl
-no-items at (some q) e = never _ (sym e)
+module _ {A : Type 0} (form : A → forms.Form) where
+  unfoldable upToEnd : Option (Read A) → Option forms.Form
+  upToEnd o = andThen o λ a rest. cond (same rest []) (some (form a)) none
 
-module _ (at c : ℕ) (l : List ℕ) where
-  items-behind : (o : Option (Read Items)) → sized expand o ≡ found c l → same l [] ≡ false
-      → Refused 4 ≡ lineForm at (orFour (upToEnd o))
-  unfolding upToEnd andThen sized found orFour lineForm
-  items-behind none e h = never _ e
-  items-behind (some q) e h = rw (found-one _ c _ l e .1, h)
+  module _ (at : ℕ) (o : Option (Read A)) where
+    end-missing : o ≡ none → Refused 4 ≡ lineForm at (orFour (upToEnd o))
+    unfolding upToEnd andThen
+    end-missing e = missing at (rw e)
 
-  items-all : (o : Option (Read Items)) → sized expand o ≡ found c l → same l [] ≡ true
-      → Steps at c ≡ lineForm at (orFour (upToEnd o))
-  unfolding upToEnd andThen sized found orFour lineForm
-  items-all none e h = never _ e
-  items-all (some q) e h = rw (found-one _ c _ l e .1, h, found-one _ c _ l e .0)
+    module _ (line : List ℕ) (a : A) (next : ℕ) (e : o ≡ found a (drop next line)) where
+      end-behind : next < length line → Refused 4 ≡ lineForm at (orFour (upToEnd o))
+      unfolding upToEnd andThen found
+      end-behind h = missing at (rw (e, goes-on line next h))
+
+      end-read : length line ≤ next → lineForm at (reads (form a)) ≡ lineForm at (orFour (upToEnd o))
+      unfolding upToEnd andThen found
+      end-read h = given at (rw (e, ends line next h))
 
 module _ (line : List ℕ) (at : ℕ) (r : Counted) (is : ItemsAre line at r) where
-  read-items : countedAt line r ≡ orFour (sized expand (itemsIn (length (drop at line) + 1) (drop at line)))
+  abbrev Found : Option (Read Items)
+  Found = itemsIn (length (drop at line) + 1) (drop at line)
+
+  read-items : countedAt line r ≡ orFour (sized expand Found)
   read-items = is .reads (length (drop at line) + 1) (omega arith)
 
   pub steps-missing : (k : ℕ) → r ≡ counts.Refused k
       → Refused 4 ≡ lineForm at (orFour (stepsRow .reader (drop at line)))
   unfolding stepsRow upToEnd
-  steps-missing k e = no-items at _ (counted-missed line r _ read-items k e)
+  steps-missing k e = end-missing forms.steps at Found (as-none _ _ (counted-missed line r _ read-items k e))
 
   module _ (count next : ℕ) (e : r ≡ counts.Steps count next) where
+    items : (is : Items) × (Found ≡ found is (drop next line)) × (capped (length (expand is)) ≡ count)
+    items = as-found _ _ _ _ (counted-found line r _ read-items count next e)
+
     pub steps-behind : next < length line → Refused 4 ≡ lineForm at (orFour (stepsRow .reader (drop at line)))
     unfolding stepsRow upToEnd
-    steps-behind h =
-        items-behind at count (drop next line) _ (counted-found line r _ read-items count next e) (goes-on line next h)
+    steps-behind h = end-behind forms.steps at Found line (items .0) next (items .1) h
 
     pub steps-read : length line ≤ next → Steps at count ≡ lineForm at (orFour (stepsRow .reader (drop at line)))
-    unfolding stepsRow upToEnd
+    unfolding stepsRow upToEnd lineForm
     steps-read h =
-        items-all at count (drop next line) _ (counted-found line r _ read-items count next e) (ends line next h)
+        ap (Steps at) (sym (items .2)) ∙ end-read forms.steps at Found line (items .0) next (items .1) h
+
+-- ---- rounds behind a number
+
+module _ (line : List ℕ) (at : ℕ) (first : FoundNumber) (is : SpacedIs line at first) where
+  pub rounds-no-number : (k : ℕ) → first ≡ numbers.Refused k
+      → Refused 4 ≡ lineForm at (orFour (roundsRow .reader (drop at line)))
+  unfolding roundsRow andThen
+  rounds-no-number k e = missing at (rw (number-missed line first _ (is .reads) k e))
+
+  module _ (k next : ℕ) (e : first ≡ numbers.At k next) (r : Listed)
+      (list : ListIs roundIn (needs k) [] line next r) where
+    read-list : listedAt line r ≡ orFour (readAs (summary (needs k)) (roundsIn (drop next line)))
+    unfolding roundsIn
+    read-list = list .reads (length (drop next line) + 1) (omega arith)
+
+    behind-number : roundsRow .reader (drop at line) ≡ upToEnd (forms.rounds k) (roundsIn (drop next line))
+    unfolding roundsRow upToEnd andThen found
+    behind-number = rw (number-found line first _ (is .reads) k next e)
+
+    pub rounds-missing : (j : ℕ) → r ≡ lists.Refused j
+        → Refused 4 ≡ lineForm at (orFour (roundsRow .reader (drop at line)))
+    rounds-missing j d =
+        rw behind-number
+        (end-missing (forms.rounds k) at _ (as-none _ _ (listed-missed line r _ read-list j d)))
+
+    module _ (count need after : ℕ) (d : r ≡ lists.At count need after) where
+      listed : (rs : List (List ℕ)) × (roundsIn (drop next line) ≡ found rs (drop after line))
+          × (summary (needs k) rs ≡ record { count = count; needs = need })
+      listed = as-found _ _ _ _ (listed-found line r _ read-list count need after d)
+
+      pub rounds-behind : after < length line → Refused 4 ≡ lineForm at (orFour (roundsRow .reader (drop at line)))
+      rounds-behind h =
+          rw behind-number (end-behind (forms.rounds k) at _ line (listed .0) after (listed .1) h)
+
+      pub rounds-read : length line ≤ after
+          → Rounds at count need ≡ lineForm at (orFour (roundsRow .reader (drop at line)))
+      unfolding summary lineForm
+      rounds-read h =
+          ap (λ (s : Summary). Rounds at (s .count) (s .needs)) (sym (listed .2))
+          ∙ rw behind-number (end-read (forms.rounds k) at _ line (listed .0) after (listed .1) h)

@@ -13,7 +13,7 @@ use Rattle.sheet.specs.declared.item.Counted.{Counted}
 use Rattle.sheet.specs.declared.item.Counted.the-variants.{Steps, Refused}
 use Rattle.model.specs.Forms.{orFour}
 use Rattle.lexer.specs.Placed.{NumberIs}
-use Rattle.sheet.specs.Counts.{capped, countedAt, CountedInside, sized, TimesIs, ItemIs, ItemsAre}
+use Rattle.sheet.specs.Counts.{capped, countedAt, CountedInside, readAs, sized, TimesIs, ItemIs, ItemsAre}
 use Rattle.lexer.proofs.Laws.Answers.{back, was-read}
 use Rattle.lexer.proofs.Laws.Places.{first-byte, behind-first, left-over}
 use Rattle.lexer.proofs.Laws.Spaced.{number-missed, number-found, number-inside}
@@ -49,7 +49,7 @@ more c none = none
 more c (some r) = found (capped (c + r .value)) (r .rest)
 
 none-more : (o : Option (Read Items)) → sized expand o ≡ more 0 (sized expand o)
-unfolding sized more found
+unfolding readAs more found
 none-more none = refl
 none-more (some r) =
     let e : capped (length (expand (r .value))) ≡ capped (0 + capped (length (expand (r .value)))) = omega arith in
@@ -64,7 +64,7 @@ more-twice t c (some r) =
 
 sized-times : (k : ℕ) → 1 ≤ k → (o : Option (Read Items))
     → sized expandItem (andThen o λ is rest. found (times k is) rest) ≡ fold k (sized expand o)
-unfolding sized fold andThen found expandItem
+unfolding readAs fold andThen found expandItem
 sized-times k h none = refl
 sized-times k h (some r) =
     let e : capped (length (repeated k (expand (r .value)))) ≡ capped (k * capped (length (expand (r .value)))) =
@@ -79,7 +79,7 @@ joined fuel (some r) = more (r .value) (sized expand (itemsIn fuel (r .rest)))
 sized-next : (fuel : ℕ) (o : Option (Read Item))
     → sized expand (andThen o λ i k. andThen (itemsIn fuel k) λ is rest. found (next i is) rest) ≡ joined fuel
     (sized expandItem o)
-unfolding sized joined andThen found expand more
+unfolding readAs joined andThen found expand more
 sized-next fuel none = refl
 sized-next fuel (some r) = by (itemsIn fuel (r .rest))
   where
@@ -130,7 +130,7 @@ module _ (line : List ℕ) (at : ℕ) where
   item-counted c after gives inside = item-is (found c (drop after line)) gives (Steps c after) inside refl
 
   pub no-item : length line ≤ at → ItemIs line at (Refused 4)
-  unfolding itemIn numberIn natural andThen sized
+  unfolding itemIn numberIn natural andThen readAs
   no-item h = item-refused (λ fuel l. rw (drop-of-length-le line h))
 
   module _ (no-bracket : getD line at 0 ≡ 40 → ⊥) where
@@ -141,11 +141,11 @@ module _ (line : List ℕ) (at : ℕ) where
 
     module _ (r : FoundNumber) (is : NumberIs line at 0 99 r) where
       pub no-number : (k : ℕ) → r ≡ numbers.Refused k → ItemIs line at (Refused 4)
-      unfolding andThen sized
+      unfolding andThen readAs
       no-number k e = item-refused (λ fuel l. rw (as-number fuel, number-missed line r _ (is .reads) k e))
 
       pub one-step : (v after : ℕ) → r ≡ numbers.At v after → ItemIs line at (Steps 1 after)
-      unfolding andThen sized found expandItem
+      unfolding andThen readAs found expandItem
       one-step v after e =
           let inside = number-inside line at 0 99 r (is .inside) v after e in
           item-counted 1 after (λ fuel l. rw (as-number fuel, number-found line r _ (is .reads) v after e))
@@ -160,7 +160,7 @@ module _ (line : List ℕ) (at : ℕ) where
 
     module _ (r : FoundNumber) (is : TimesIs line at r) where
       pub no-times : (k : ℕ) → r ≡ numbers.Refused k → ItemIs line at (Refused 4)
-      unfolding andThen sized
+      unfolding andThen readAs
       no-times k e = item-refused (λ fuel l. rw (as-times fuel, number-missed line r _ (is .reads) k e))
 
       module _ (k inner : ℕ) (e : r ≡ numbers.At k inner) (q : Counted) (items : ItemsAre line inner q) where
@@ -230,12 +230,12 @@ module _ (line : List ℕ) (at place total : ℕ) (along : Along line at place t
   items-refused gives = items-are none gives (Refused 4) tt refl
 
   pub no-more : length line ≤ place → ItemsAre line at (Refused 4)
-  unfolding itemsIn spaced andThen sized more
+  unfolding itemsIn spaced andThen readAs more
   no-more h = items-refused (λ fuel l. rw (drop-of-length-le line h))
 
   module _ (inside : place < length line) where
     pub closed : getD line place 0 ≡ 41 → ItemsAre line at (Steps total (place + 1))
-    unfolding itemsIn sized more countedAt orFour found expand
+    unfolding itemsIn readAs more countedAt orFour found expand
     closed e =
         let same : capped (total + 0) ≡ total = omega (arith, along .small) in
         items-are (found total (drop (place + 1) line))
@@ -245,7 +245,7 @@ module _ (line : List ℕ) (at place total : ℕ) (along : Along line at place t
 
     module _ (unclosed : getD line place 0 ≡ 41 → ⊥) where
       pub no-space : (getD line place 0 ≡ 32 → ⊥) → ItemsAre line at (Refused 4)
-      unfolding itemsIn spaced andThen sized more
+      unfolding itemsIn spaced andThen readAs more
       no-space ne =
           items-refused (λ fuel l. rw
           (first-byte line place, ne-eqb (getD line place 0) 41 unclosed, ne-eqb (getD line place 0) 32 ne))

@@ -1,9 +1,11 @@
--- The reading that a form of the code came from; `steps` tells that it was steps, but of its items their count alone.
+-- The reading that a form of the code came from; `steps` tells that it was steps, but of its items their count alone,
+-- and `rounds` that it was rounds, but of these their number and what they need.
 -- Relies on `lineForm`; the run of a line's items and the player of a line rely on it.
-use Rattle.model.proofs.Kit.{_≡_, refl, subst, ℕ}
-use Rattle.model.specs.Forms.{Form, board, propose, steps, show, Items, Reading, reads, unread}
+use Rattle.model.proofs.Kit.{_≡_, refl, subst, List, ℕ, length}
+use Rattle.model.specs.Forms.{Form, board, propose, steps, show, rounds, Items, Reading, reads, unread}
+use Rattle.halts.specs.Needs.{needs}
 use Rattle.sheet.specs.declared.form.LineForm.{LineForm}
-use Rattle.sheet.specs.declared.form.LineForm.the-variants.{Board, Propose, Steps, Show, Refused}
+use Rattle.sheet.specs.declared.form.LineForm.the-variants.{Board, Propose, Steps, Show, Rounds, Refused}
 use Rattle.sheet.specs.LineForms.{lineForm}
 
 -- what the form f tells of the reading
@@ -12,6 +14,8 @@ Tells (Board n K) q = q ≡ reads (board n K)
 Tells (Propose i v) q = q ≡ reads (propose i v)
 Tells (Steps at c) q = (is : Items) × (q ≡ reads (steps is))
 Tells Show q = q ≡ reads show
+Tells (Rounds at n s) q =
+    (k : ℕ) × (rs : List (List ℕ)) × (q ≡ reads (rounds k rs)) × (n ≡ length rs) × (s ≡ needs k rs)
 Tells (Refused k) q = q ≡ unread k
 
 its-own : (at : ℕ) (q : Reading Form) → Tells (lineForm at q) q
@@ -20,6 +24,7 @@ its-own at (reads (board n K)) = refl
 its-own at (reads (propose i v)) = refl
 its-own at (reads (steps is)) = (is, refl)
 its-own at (reads show) = refl
+its-own at (reads (rounds k rs)) = (k, rs, refl, refl, refl)
 its-own at (unread k) = refl
 
 pub read-as : (at : ℕ) (q : Reading Form) (f : LineForm) → lineForm at q ≡ f → Tells f q

@@ -4,8 +4,8 @@ use Rattle.model.proofs.Kit.{_≡_, refl, sym, ap, _∙_, Bool, true, false, co
 use Rattle.model.proofs.Kit.{_+_, _≤_, _<_, le-leb, lt-leb, eqb, length, drop, arith}
 use Rattle.model.specs.Show.{text, textFrom}
 use Rattle.model.specs.Calls.{unless}
-use Rattle.model.specs.Forms.{same, boardRow, proposeRow, stepsRow, showRow, wordRows, rowIn, upToStop, firstWord}
-use Rattle.model.specs.Forms.{wordPlace}
+use Rattle.model.specs.Forms.{same, boardRow, proposeRow, stepsRow, showRow, roundsRow, wordRows, rowIn, upToStop}
+use Rattle.model.specs.Forms.{firstWord, wordPlace}
 use Rattle.model.specs.Forms.{formIn, tooDeep, orFour, readLine}
 use Rattle.lexer.specs.declared.word.FormWord.{FormWord}
 use Rattle.lexer.specs.declared.word.Named.{Named}
@@ -68,7 +68,7 @@ bracketed (b ∷ l) ne = by (eqb b 40) (stops-inside l) ne
     by false h ne = absurd (ne refl)
 
 no-word : rowIn wordRows [] ≡ none
-unfolding rowIn wordRows boardRow proposeRow stepsRow showRow same text textFrom
+unfolding rowIn wordRows boardRow proposeRow stepsRow showRow roundsRow same text textFrom
 no-word = refl
 
 pub part-inside : (l part : List ℕ) → part ≡ firstWord l → length part ≤ length l

@@ -1,5 +1,5 @@
 //! boards COUNT SEED: every call of the linked engine beside the reference, on made boards, and every byte that it was
-//! lent. A count of 0 goes on for ever, with a line per thousand rounds.
+//! lent. A count of 0 goes on for ever, with a line per thousand batches.
 
 use reference::compare::Compare;
 use reference::engine::Linked;
@@ -7,8 +7,8 @@ use reference::engine::Linked;
 fn print(compare: &Compare) {
     let c = &compare.counts;
     println!("{} calls, {} of them standings; {} lines, {} words compared", c.calls, c.standings, c.lines, c.words);
-    println!("steps compared: {} single, {} in runs", c.single_steps, c.run_steps);
-    let by: Vec<String> = (7..18).map(|r| format!("{r}: {}", c.refusals[r])).collect();
+    println!("steps compared: {} single, {} in runs; rounds: {}", c.single_steps, c.run_steps, c.rounds);
+    let by: Vec<String> = (7..20).map(|r| format!("{r}: {}", c.refusals[r])).collect();
     println!("accepted {}; refused 6: {}, {}", c.refusals[0], c.refusals[6], by.join(", "));
 }
 
@@ -30,7 +30,7 @@ fn main() {
         if count != 0 && at == count {
             break;
         }
-        compare.round(first.wrapping_add(at));
+        compare.batch(first.wrapping_add(at));
         for line in &compare.told[told..] {
             println!("{line}");
         }

@@ -2,7 +2,9 @@
 //! With `-` for the program only the calls of this package are asked. A count of 0 goes on for ever. A fourth argument
 //! `three` adds every board that three stations can come to, some 1.4 million and half a minute.
 
+use reference::halts::Halts;
 use reference::lists::{judge, make, order_for, play, sequential, Call, Deeds, List};
+use reference::model::Standing;
 use reference::program;
 use reference::random::Random;
 use reference::reach::{deeds, every_board};
@@ -42,53 +44,78 @@ impl Tally {
     }
 }
 
-/// A list as lines, each of which has the steps of one station only, so that S tells whether that station stepped.
-fn lines(list: &List) -> Vec<(String, Call)> {
-    let mut out = vec![(format!("(board {} {})", list.n, list.k), Call::Lay(list.n, list.k))];
+/// A list as lines. A line of steps has those of one station only, so that S tells whether that station stepped. Before
+/// rounds stands a show, which tells whom they will step. A show has no call.
+fn lines(list: &List) -> Vec<(String, Option<Call>)> {
+    let mut out = vec![(format!("(board {} {})", list.n, list.k), None)];
+    let show = || ("(show)".to_string(), None);
     for group in list.calls.chunk_by(|a, b| a == b && matches!(a, Call::Step(_))) {
-        let text = match group[0] {
+        let text = match &group[0] {
             Call::Lay(n, k) => format!("(board {n} {k})"),
             Call::Propose(i, v) => format!("(propose {i} {v})"),
             // 255 is no number of a sheet; 99 is refused alike.
-            Call::Step(i) => format!("(steps (times {} {}))", group.len(), i.min(99)),
+            Call::Step(i) => format!("(steps (times {} {}))", group.len(), i.min(&99)),
+            Call::Rounds(halts) => {
+                out.push(show());
+                halts.to_line()
+            }
         };
-        out.push((text, group[0]));
+        out.push((text, Some(group[0].clone())));
     }
-    out.push(("(show)".to_string(), Call::Lay(0, 0)));
+    out.push(show());
     out
 }
 
 /// What the program's answers to those lines say of the stations.
-fn deeds_of(list: &List, lines: &[(String, Call)], printed: &[&str]) -> Option<Vec<Deeds>> {
+fn deeds_of(list: &List, lines: &[(String, Option<Call>)], printed: &[&str]) -> Option<Vec<Deeds>> {
     let mut deeds = vec![Deeds::default(); list.n as usize];
+    let mut shown = vec![Standing::Idle; list.n as usize];
     for ((_, call), answer) in lines.iter().zip(printed) {
-        match *call {
-            Call::Propose(i, v) if answer.starts_with("(proposed ") => {
-                deeds.get_mut(i as usize - 1)?.proposed = Some(v)
+        match call {
+            None if answer.starts_with("(stations ") => shown = standings(answer)?,
+            Some(Call::Propose(i, v)) if answer.starts_with("(proposed ") => {
+                deeds.get_mut(*i as usize - 1)?.proposed = Some(*v)
             }
-            Call::Step(i) if answer.starts_with("(ran ") && !answer.starts_with("(ran 0 ") => {
-                deeds.get_mut(i as usize - 1)?.stepped = true
+            Some(Call::Step(i)) if answer.starts_with("(ran ") && !answer.starts_with("(ran 0 ") => {
+                deeds.get_mut(*i as usize - 1)?.stepped = true
             }
+            Some(Call::Rounds(halts)) if answer.starts_with("(played ") => stepped_by(halts, &shown, &mut deeds),
             _ => {}
         }
     }
-    let shown = decided_of(printed.last()?)?;
-    for (d, (decided, spent)) in deeds.iter_mut().zip(shown) {
-        d.decided = decided;
-        d.spent = spent;
+    for (d, standing) in deeds.iter_mut().zip(standings(printed.last()?)?) {
+        d.decided = decided(standing);
+        d.spent = matches!(standing, Standing::Spent(..));
     }
     Some(deeds)
 }
 
-/// Per station of a shown line: the figure it decided, and whether it is spent.
-fn decided_of(line: &str) -> Option<Vec<(Option<i32>, bool)>> {
+/// A going station takes a step unless every round suspends it.
+fn stepped_by(halts: &Halts, shown: &[Standing], deeds: &mut [Deeds]) {
+    for (at, d) in deeds.iter_mut().enumerate() {
+        let free = halts.rounds.iter().any(|named| !named.contains(&(at as u8 + 1)));
+        d.stepped |= free && matches!(shown.get(at), Some(Standing::Going(..)));
+    }
+}
+
+fn decided(standing: Standing) -> Option<i32> {
+    if let Standing::Decided(_, v) = standing {
+        Some(v as i32)
+    } else {
+        None
+    }
+}
+
+/// How each station stands by a shown line.
+fn standings(line: &str) -> Option<Vec<Standing>> {
     let inside = line.strip_prefix("(stations (")?.strip_suffix("))")?;
     let one = |part: &str| {
         let words: Vec<&str> = part.split(' ').collect();
         match words.as_slice() {
-            [_, "decided", _, v] => Some((Some(v.parse().ok()?), false)),
-            [_, "spent", _, _] => Some((None, true)),
-            [_, "going", _, _] | [_, "idle"] => Some((None, false)),
+            [_, "idle"] => Some(Standing::Idle),
+            [_, "going", c, v] => Some(Standing::Going(c.parse().ok()?, v.parse().ok()?)),
+            [_, "decided", c, v] => Some(Standing::Decided(c.parse().ok()?, v.parse().ok()?)),
+            [_, "spent", c, v] => Some(Standing::Spent(c.parse().ok()?, v.parse().ok()?)),
             _ => None,
         }
     };
@@ -102,13 +129,13 @@ fn sequential_by(program: &str, n: u8, k: u8, order: &[(u8, i32)]) -> Vec<Option
     let sheet = format!("(board {n} {k})\n{}(show)\n", order.iter().map(turn).collect::<String>());
     let printed = program::run(program, sheet.as_bytes(), program::WHOLE).map(|e| e.printed).unwrap_or_default();
     let text = String::from_utf8_lossy(&printed).into_owned();
-    let shown = text.lines().last().and_then(decided_of).unwrap_or_default();
-    order.iter().map(|(i, _)| shown.get(*i as usize - 1).and_then(|s| s.0)).collect()
+    let shown = text.lines().last().and_then(standings).unwrap_or_default();
+    order.iter().map(|(i, _)| shown.get(*i as usize - 1).and_then(|s| decided(*s))).collect()
 }
 
 /// Several lists in one sheet, then each list's order.
 fn by_program(tally: &mut Tally, program: &str, lists: &[(u64, List)]) {
-    let parts: Vec<Vec<(String, Call)>> = lists.iter().map(|(_, list)| lines(list)).collect();
+    let parts: Vec<Vec<(String, Option<Call>)>> = lists.iter().map(|(_, list)| lines(list)).collect();
     let sheet: String = parts.iter().flatten().map(|(text, _)| format!("{text}\n")).collect();
     let printed = program::run(program, sheet.as_bytes(), program::WHOLE).map(|e| e.printed).unwrap_or_default();
     let text = String::from_utf8_lossy(&printed).into_owned();

@@ -1,8 +1,9 @@
-//! sheets PROGRAM COUNT SEED: plays made sheets through the program and compares all it prints with the reference.
+//! sheets PROGRAM COUNT SEED: plays made sheets through the program and compares all it prints with the reference, and
+//! plays rounds beside their single steps.
 //! A count of 0 goes on for ever.
 
 use reference::sheet::{lines, play};
-use reference::{edges, program, sheets, shorten};
+use reference::{edges, habits, program, sheets, shorten};
 
 /// Shortening runs the program often, so only the first failures are shortened.
 const SHORTENED: u64 = 5;
@@ -13,6 +14,7 @@ struct Tally {
     lines: u64,
     refused: u64,
     steps: u64,
+    rounds: u64,
 }
 
 impl Tally {
@@ -35,22 +37,45 @@ impl Tally {
         for line in lines(expected) {
             self.lines += 1;
             self.refused += line.starts_with(b"(refused") as u64;
-            if let Some(rest) = line.strip_prefix(b"(ran ") {
-                let taken = rest.split(|b| *b == b' ').next().unwrap_or(b"0");
-                self.steps += String::from_utf8_lossy(taken).parse::<u64>().unwrap_or(0);
-            }
+            self.steps += first_number(line, b"(ran ");
+            self.rounds += first_number(line, b"(played ");
+        }
+    }
+
+    /// Rounds beside their single steps, both by the program alone.
+    fn compare_twins(&mut self, seed: u64, program: &str) {
+        let twins = habits::twins(seed);
+        let run = |sheet: &Vec<u8>| program::run(program, sheet, program::WHOLE).map(|e| e.printed).unwrap_or_default();
+        let [rounds, steps] = [run(&twins[0]), run(&twins[1])];
+        self.count(&rounds);
+        self.count(&steps);
+        if !habits::shown(&rounds).is_empty() && habits::shown(&rounds) == habits::shown(&steps) {
+            self.passed += 1;
+            return;
+        }
+        self.failed += 1;
+        println!("twins of seed {seed}: rounds and their single steps do not show the same");
+        if self.failed <= SHORTENED {
+            print!("{}{}", String::from_utf8_lossy(&twins[0]), String::from_utf8_lossy(&rounds));
         }
     }
 
     fn print(&self) {
         println!(
-            "{} sheets, {} lines, {} of them refused, {} steps taken",
+            "{} comparisons, {} lines, {} of them refused, {} steps taken in runs, {} rounds played",
             self.passed + self.failed,
             self.lines,
             self.refused,
-            self.steps
+            self.steps,
+            self.rounds
         );
     }
+}
+
+/// The number behind the word of an answer, 0 for another answer.
+fn first_number(line: &[u8], word: &[u8]) -> u64 {
+    let number = line.strip_prefix(word).and_then(|rest| rest.split(|b| *b == b' ').next());
+    number.and_then(|digits| std::str::from_utf8(digits).ok()?.parse().ok()).unwrap_or(0)
 }
 
 /// Only sheets that fail with every line ended by LF can be shortened line by line.
@@ -73,7 +98,7 @@ fn main() {
         std::process::exit(2);
     };
     let (count, first): (u64, u64) = (count.parse().expect("a number"), seed.parse().expect("a number"));
-    let mut tally = Tally { passed: 0, failed: 0, lines: 0, refused: 0, steps: 0 };
+    let mut tally = Tally { passed: 0, failed: 0, lines: 0, refused: 0, steps: 0, rounds: 0 };
     for edge in edges::edges() {
         tally.compare(edge.name, program, &edge.sheet, program::WHOLE);
         tally.compare(edge.name, program, &edge.sheet, 997);
@@ -87,6 +112,7 @@ fn main() {
         let seed = first.wrapping_add(at);
         let piece = if seed % 8 == 0 { seed as usize % 61 + 1 } else { program::WHOLE };
         tally.compare(&format!("seed {seed}"), program, &sheets::sheet(seed), piece);
+        tally.compare_twins(seed, program);
         if (at + 1) % 1000 == 0 {
             print!("to seed {seed}: {} failed; ", tally.failed);
             tally.print();

@@ -4,7 +4,7 @@ use Rattle.model.specs.Bytes.{every}
 use Rattle.model.specs.Layout.{recordAt, recordOf}
 use Rattle.model.specs.Sound.{recordSound}
 use Rattle.record_soundness.proofs.Laws.Chains.{no, yes}
-use Rattle.record_soundness.proofs.Laws.Loops.{every-none, every-more, every-end, every-fails}
+use Rattle.model.proofs.Basics.Loops.{every-none, every-more, every-end, every-fails}
 use Rattle.record_soundness.proofs.Laws.Records.{record-next, next-fits}
 use Rattle.record_soundness.proofs.records.records_sound.Statement.{statement}
 use Rattle.record_soundness.proofs.records.records_sound.Tie as tie

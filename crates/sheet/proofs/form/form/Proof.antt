@@ -9,5 +9,6 @@ form-spec =
     tie.close (tie.spec (λ c κs. search needs) (λ c. omega (arith, part-inside _ _ (c .first-word .ensures .bytes)))
     (λ c κs. search needs) (λ c. search needs) (λ c. search needs) (λ c. search no-form) (λ c. search needs)
     (λ c κs. search needs) (λ c. search needs) (λ c κs. search needs) (λ c. search needs) (λ c κs. search needs)
-    (λ c. search needs) (λ c κs. search place-inside) (λ c. search form-read) (λ c. search form-read)
-    (λ c. search form-read) (λ c. search form-read))
+    (λ c. search needs) (λ c κs. search place-inside) (λ c. search needs) (λ c κs. search needs)
+    (λ c. search form-read) (λ c. search form-read) (λ c. search form-read) (λ c. search form-read)
+    (λ c. search form-read))

@@ -6,7 +6,7 @@ use Rattle.model.specs.Layout.{registerAt}
 use Rattle.model.specs.Listing.{inA, inB}
 use Rattle.model.specs.Sound.{arraySound}
 use Rattle.record_soundness.proofs.Laws.Chains.{no, yes, fail4, pass}
-use Rattle.record_soundness.proofs.Laws.Loops.{every-none, every-more, every-end, every-fails}
+use Rattle.model.proofs.Basics.Loops.{every-none, every-more, every-end, every-fails}
 use Rattle.soundness.proofs.Laws.Rows.{first-row, next-rows, array-a, array-b, a-inside, b-inside, Rows}
 use Rattle.soundness.proofs.registers.islands_sound.Statement.{statement}
 use Rattle.soundness.proofs.registers.islands_sound.Tie as tie

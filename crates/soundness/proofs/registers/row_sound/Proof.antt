@@ -3,7 +3,7 @@ use Rattle.model.proofs.Kit.{_≡_, true, _+_, _-_, _≤_, _*_, needs}
 use Rattle.model.specs.Bytes.{every, part}
 use Rattle.model.specs.Sound.{registerSound}
 use Rattle.record_soundness.proofs.Laws.Chains.{no, yes}
-use Rattle.record_soundness.proofs.Laws.Loops.{every-none, every-more, every-end, every-fails}
+use Rattle.model.proofs.Basics.Loops.{every-none, every-more, every-end, every-fails}
 use Rattle.soundness.proofs.registers.row_sound.Statement.{statement}
 use Rattle.soundness.proofs.registers.row_sound.Tie as tie
 

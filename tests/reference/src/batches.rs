@@ -1,18 +1,18 @@
-//! Which calls are compared: every kind of call on fresh, reached, sound, damaged and hostile boards, lists of calls,
-//! long runs, and the lines of sheets.
+//! Which calls are compared: every kind of call on fresh, reached, sound, damaged and hostile boards, lists of calls and
+//! long runs. `round_batches` has what is made of rounds alone, `line_batches` the lines of sheets.
 
 use crate::boards;
 use crate::bytes::length;
 use crate::compare::{Call, Compare};
 use crate::engine::SHOWN;
+use crate::halts::ROUND_END;
 use crate::lent::{pattern, Lent};
 use crate::lists;
 use crate::random::Random;
 use crate::reach;
-use crate::{sheet, sheets};
 
 /// Room for a line that is handed back: enough, too little, and more.
-const ROOMS: [usize; 6] = [SHOWN, SHOWN - 1, SHOWN + 1, SHOWN + 90, 1, 0];
+pub const ROOMS: [usize; 6] = [SHOWN, SHOWN - 1, SHOWN + 1, SHOWN + 90, 1, 0];
 
 impl Compare<'_> {
     /// Every kind of call, each on the board as it is.
@@ -31,6 +31,7 @@ impl Compare<'_> {
         let stations = stations(r, n, 40);
         self.once(seed, Call::Run(&stations), board);
         self.once(seed, Call::Run(&[]), board);
+        self.rounds_on(seed, r, n, board);
         let sizes = [(n, board.get(1).copied().unwrap_or(2)), r.size(), (r.byte(), r.byte()), (any % 19, any % 67)];
         for (n, k) in sizes {
             self.once(seed, Call::Lay(n, k), board);
@@ -55,6 +56,9 @@ impl Compare<'_> {
             match *call {
                 lists::Call::Lay(n, k) => self.call(seed, Call::Lay(n, k), &mut ours, &mut theirs),
                 lists::Call::Propose(i, v) => self.call(seed, Call::Propose(i, v), &mut ours, &mut theirs),
+                lists::Call::Rounds(ref halts) => {
+                    self.call(seed, Call::Rounds(halts.most, &halts.to_bytes()), &mut ours, &mut theirs)
+                }
                 // A station that has ended refuses all its further steps; a few of them are enough.
                 lists::Call::Step(i) if done[i as usize] && !r.once_in(16) => 0,
                 lists::Call::Step(i) => {
@@ -84,6 +88,9 @@ impl Compare<'_> {
             match group[0] {
                 lists::Call::Lay(n, k) => self.call(seed, Call::Lay(n, k), &mut ours, &mut theirs),
                 lists::Call::Propose(i, v) => self.call(seed, Call::Propose(i, v), &mut ours, &mut theirs),
+                lists::Call::Rounds(ref halts) => {
+                    self.call(seed, Call::Rounds(halts.most, &halts.to_bytes()), &mut ours, &mut theirs)
+                }
                 lists::Call::Step(_) => {
                     let number = |call: &lists::Call| if let lists::Call::Step(i) = call { *i } else { 0 };
                     let stations: Vec<u8> = group.iter().map(number).collect();
@@ -154,7 +161,8 @@ impl Compare<'_> {
             for value in (0..=255).filter(|v| *v != kept) {
                 board[at] = value;
                 let station = r.between(1, n as usize) as u8;
-                for call in [Call::Check, Call::Step(station), Call::Standing(station), Call::Show(SHOWN)] {
+                let rounds = Call::Rounds(1, &[1, ROUND_END]);
+                for call in [Call::Check, Call::Step(station), Call::Standing(station), Call::Show(SHOWN), rounds] {
                     self.once(seed, call, &board);
                 }
             }
@@ -163,65 +171,9 @@ impl Compare<'_> {
         for size in 0..=board.len() + 2 {
             let mut other = board.clone();
             other.resize(size, 170);
-            for call in [Call::Check, Call::Standing(1), Call::Show(SHOWN), Call::Lay(n, k)] {
+            for call in [Call::Check, Call::Standing(1), Call::Show(SHOWN), Call::Lay(n, k), Call::Rounds(0, &[])] {
                 self.once(seed, call, &other);
             }
-        }
-    }
-
-    /// A sheet, line by line on two memories of which every byte is compared. Some memories are too short for a board of
-    /// the sheet. In some sheets the memory comes to harm between lines, or another length is said to be laid.
-    pub fn lines(&mut self, seed: u64) {
-        let mut r = Random::new(seed);
-        let sheet = sheets::sheet(seed);
-        let largest = length(16, 64);
-        let size = if r.once_in(3) { r.pick(&[0, 7, 8, 199, 200, 1000, largest - 1]) } else { largest + r.below(20) };
-        let (mut ours, mut theirs) = self.copies(&pattern(&mut r, size));
-        let mut laid = 0;
-        let harm = size > 0 && r.once_in(3);
-        for line in sheet::lines(&sheet) {
-            if harm && laid > 0 && r.once_in(10) {
-                ours.bytes_mut()[r.below(laid.min(size))] = r.below(4) as u8;
-                laid = if r.once_in(3) { r.below(size + 1) } else { laid };
-                theirs.become_like(&ours);
-            }
-            let line = with_line_feed(&mut r, line);
-            let room = if r.once_in(6) { r.pick(&ROOMS) } else { SHOWN };
-            let answer = self.call(seed, Call::Line(&line, laid, room), &mut ours, &mut theirs);
-            laid = if answer == u64::MAX { laid } else { (answer >> 16) as usize };
-            self.once(seed, Call::Word(&line), &[]);
-        }
-    }
-
-    /// A memory that is one board, sound or not, and more said to be laid than it has.
-    pub fn much_laid(&mut self, seed: u64) {
-        let mut r = Random::new(seed);
-        let (n, k) = (r.between(1, 4) as u8, r.between(2, 4) as u8);
-        let board = boards::sound(&mut r, n, k);
-        let board = if r.once_in(2) { boards::resized(&mut r, board) } else { board };
-        let size = board.len();
-        let most = u32::MAX as usize;
-        let propose = format!("(propose {} {})", r.between(0, n as usize + 1), r.figure());
-        let lay = format!("(board {n} {k})");
-        for line in ["(show)", &propose, "(steps (times 9 1 2 3))", "(steps (times 65537 1))", &lay, "(show)\n", "show"]
-        {
-            for laid in [0, 1, size / 2, size, size + 1, size + 4096, most, most + 1, usize::MAX] {
-                self.once(seed, Call::Line(line.as_bytes(), laid, SHOWN), &board);
-            }
-        }
-    }
-
-    pub fn words(&mut self, seed: u64) {
-        let mut r = Random::new(seed);
-        for word in ["board", "propose", "steps", "show", "times", "", "sho", "shows", "boar", "boards"] {
-            for end in ["", " ", ")", "(", "\t", "\n", "x", " 1 2)", "((((((((((((", ")))", "\0"] {
-                for start in ["(", "", "((", " (", "( ", "\n("] {
-                    self.once(seed, Call::Word(format!("{start}{word}{end}").as_bytes()), &[]);
-                }
-            }
-            let line = sheets::spoilt(&mut r, format!("({word} 1 2)").into_bytes());
-            self.once(seed, Call::Word(&line), &[]);
-            self.once(seed, Call::Word(&line.repeat(40)), &[]);
         }
     }
 
@@ -235,16 +187,19 @@ impl Compare<'_> {
             }
             self.once(0, Call::Check, &board);
             self.once(0, Call::Show(SHOWN), &board);
+            self.once(0, Call::Rounds(1, &[1, ROUND_END, ROUND_END]), &board);
         }
     }
 
-    /// One round of everything. It follows from its seed alone, the bytes around every buffer included.
-    pub fn round(&mut self, seed: u64) {
+    /// One batch of everything. It follows from its seed alone, the bytes around every buffer included.
+    pub fn batch(&mut self, seed: u64) {
         self.patterns = Random::new(!seed);
         self.driven(seed);
         for part in 0..8 {
             self.listed_runs(seed.wrapping_mul(64) + part);
             self.runs(seed.wrapping_mul(64) + part);
+            self.played(seed.wrapping_mul(64) + part);
+            self.spelled_out(seed.wrapping_mul(64) + part);
         }
         for part in 0..6 {
             self.sound_board(seed.wrapping_mul(64) + part);
@@ -258,17 +213,10 @@ impl Compare<'_> {
         if seed % 256 == 0 {
             self.each_byte(seed);
             self.longest_runs(seed);
+            self.short_lists(seed);
+            self.many_rounds(seed);
         }
     }
-}
-
-/// Some lines are lent with a line feed in them, which no sheet's line has.
-fn with_line_feed(r: &mut Random, line: &[u8]) -> Vec<u8> {
-    let mut line = line.to_vec();
-    if r.once_in(12) {
-        line.insert(r.pick(&[0, line.len() / 2, line.len()]), b'\n');
-    }
-    line
 }
 
 /// Bursts of single stations, now and then one that is not there.

@@ -1,0 +1,2 @@
+-- What rounds ask of a board, which the contracts cite.
+pub mod Needs

@@ -1,0 +1,59 @@
+// One round on a board that is known to be sound: each station that the round does not suspend takes a whole step, a write
+// and its collect, in station order. Its cost does not depend on the board's size.
+// Relies on the step of a sound board; the rounds of a lent list and those of a sheet's line rely on it.
+ghost use mathlib.Core.Path.{_≡_};
+ghost use mathlib.Core.Bool.{cond};
+ghost use mathlib.Core.List.{[]};
+ghost use mathlib.Core.Option.{none};
+ghost use lib.ListN.{replicate};
+ghost use Rattle.model.specs.Calls.{boardRefusal, stepOn};
+ghost use Rattle.model.specs.Runs.{after};
+ghost use Rattle.rounds.specs.Rounds.{afterTurns, afterRound};
+use stepping::running::taken;
+use stepping::sound_step::step_on;
+
+// So many single steps of one station. A refused step leaves the board as it was, and so would every later one: they are
+// passed over, so that a station that is idle, decided or spent costs one step.
+fn steps_of(board: &mut [u8], station: u8, count: usize)
+    requires { ⌜ boardRefusal (now board) none ≡ none ⌝ }
+    ensures { λ _. ⌜ now (board .exit) ≡ after stepOn (now (board .entry)) (replicate count station) ⌝ }
+{
+    let mut i: usize = 0;
+    while i < count {
+        let answer = step_on(board, station);
+        if taken(answer) == 0 {
+            return;
+        }
+        i += 1;
+    }
+}
+
+fn turn_of(board: &mut [u8], station: u8, halted: bool, steps: usize)
+    requires { ⌜ boardRefusal (now board) none ≡ none ⌝ }
+    ensures { λ _. ⌜ now (board .exit) ≡ after stepOn (now (board .entry)) (cond halted [] (replicate steps station)) ⌝ }
+{
+    if halted {
+        return;
+    }
+    steps_of(board, station, steps);
+}
+
+fn stations_in_turn(board: &mut [u8], halted: [bool; 16], steps: usize)
+    requires { ⌜ boardRefusal (now board) none ≡ none ⌝ }
+    ensures { λ _. ⌜ now (board .exit) ≡ afterTurns steps halted (now (board .entry)) ⌝ }
+{
+    let n = board[0] as usize;
+    let mut j = 0;
+    while j < n {
+        turn_of(board, (j + 1) as u8, halted[j], steps);
+        j += 1;
+    }
+}
+
+pub fn play_round(board: &mut [u8], halted: [bool; 16])
+    requires { ⌜ boardRefusal (now board) none ≡ none ⌝ }
+    ensures { λ _. ⌜ now (board .exit) ≡ afterRound halted (now (board .entry)) ⌝ }
+{
+    let n = board[0] as usize;
+    stations_in_turn(board, halted, n + 1);
+}
