@@ -10,6 +10,7 @@ use crate::refusing::rounds_refusal;
 use model::RoundsVerdict;
 use model::Verdict;
 
+// `most` is how many stations a round may name. Nothing is played of a call that is refused.
 pub fn rounds(board: &mut [u8], most: u8, named: &[u8]) -> RoundsVerdict
     ensures { λ r. ⌜ (roundsTold r ≡ rounds most (lentRounds (now (named .entry))) (now (board .entry)) .answer) × (now (board .exit) ≡ rounds most (lentRounds (now (named .entry))) (now (board .entry)) .bytes) ⌝ }
 {

@@ -24,6 +24,7 @@ pub struct Asked {
     pub needs: u8,
 }
 
+// What the stations of one round need, whatever their number.
 fn climb_of(named: &[u8]) -> u8
     ensures { λ r. ⌜ r ≡ climbs 0 (now (named .entry)) ⌝ }
 {
@@ -36,6 +37,7 @@ fn climb_of(named: &[u8]) -> u8
     last
 }
 
+// The set that one round names.
 fn halted_of(named: &[u8]) -> [bool; 16]
     ensures { λ r. ⌜ Suspends r (now (named .entry)) ⌝ }
 {
@@ -48,6 +50,7 @@ fn halted_of(named: &[u8]) -> [bool; 16]
     halted
 }
 
+// All rounds are summed up before any is played: one at the end of the list may turn the whole call down.
 pub fn needs_of(named: &[u8], most: u8) -> Asked
     ensures { λ r. ⌜ Asks most (now (named .entry)) r ⌝ }
 {
@@ -64,7 +67,7 @@ pub fn needs_of(named: &[u8], most: u8) -> Asked
     Asked { rounds, needs }
 }
 
-// On a board that is known to be sound.
+// Each round in turn, on a board that is known to be sound.
 pub fn play_rounds(board: &mut [u8], named: &[u8])
     requires { ⌜ boardRefusal (now board) none ≡ none ⌝ }
     ensures { λ _. ⌜ now (board .exit) ≡ afterRounds (lentRounds (now (named .entry))) (now (board .entry)) ⌝ }

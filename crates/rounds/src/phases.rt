@@ -37,6 +37,7 @@ fn one_decided(phase: u8) -> u8
     0
 }
 
+// Whether a call by the round may begin: no station is in the middle of a collect.
 pub fn all_settled(board: &[u8]) -> bool
     requires { ⌜ boardRefusal (now board) none ≡ none ⌝ }
     ensures { λ r. ⌜ r ≡ allSettled (now (board .entry)) ⌝ }
@@ -54,6 +55,7 @@ pub fn all_settled(board: &[u8]) -> bool
     true
 }
 
+// All stations that stand decided, also those that did before the call.
 pub fn decided_on(board: &[u8]) -> u8
     requires { ⌜ boardRefusal (now board) none ≡ none ⌝ }
     ensures { λ r. ⌜ r ≡ decidedOn (now (board .entry)) ⌝ }

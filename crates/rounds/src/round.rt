@@ -28,6 +28,7 @@ fn steps_of(board: &mut [u8], station: u8, count: usize)
     }
 }
 
+// A station's part in a round.
 fn turn_of(board: &mut [u8], station: u8, halted: bool, steps: usize)
     requires { ⌜ boardRefusal (now board) none ≡ none ⌝ }
     ensures { λ _. ⌜ now (board .exit) ≡ after stepOn (now (board .entry)) (cond halted [] (replicate steps station)) ⌝ }
@@ -38,6 +39,7 @@ fn turn_of(board: &mut [u8], station: u8, halted: bool, steps: usize)
     steps_of(board, station, steps);
 }
 
+// The stations in their order, each before the next begins.
 fn stations_in_turn(board: &mut [u8], halted: [bool; 16], steps: usize)
     requires { ⌜ boardRefusal (now board) none ≡ none ⌝ }
     ensures { λ _. ⌜ now (board .exit) ≡ afterTurns steps halted (now (board .entry)) ⌝ }
@@ -50,6 +52,7 @@ fn stations_in_turn(board: &mut [u8], halted: [bool; 16], steps: usize)
     }
 }
 
+// A write is one step and the collect of its array one for each station.
 pub fn play_round(board: &mut [u8], halted: [bool; 16])
     requires { ⌜ boardRefusal (now board) none ≡ none ⌝ }
     ensures { λ _. ⌜ now (board .exit) ≡ afterRound halted (now (board .entry)) ⌝ }

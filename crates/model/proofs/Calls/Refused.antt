@@ -1,6 +1,7 @@
 -- A refused call answers its number and leaves every byte; a move of a going station is never a refusal.
 -- Relies on the calls' definitions, Refusals and Runs; the laws of lists of calls rely on it.
-use Rattle.model.proofs.Kit.{_≡_, refl, sym, ap, _∙_, true, false, List, none, some, ℕ, _-_, arith}
+use Rattle.model.proofs.Kit.{_≡_, refl, sym, ap, _∙_, true, false, List, none, some, ℕ, zero, suc, _-_}
+use Rattle.model.proofs.Kit.{replicate, arith}
 use Rattle.model.specs.Figure.{Figure, figures}
 use Rattle.model.specs.Listing.{Order, Turn, Register, Seen, Stage, writing, reading, has-decided, is-spent}
 use Rattle.model.specs.Listing.{Station, idle}
@@ -8,6 +9,7 @@ use Rattle.model.specs.Listing.{active, Answer, refused, accepted, outco
 use Rattle.model.specs.Calls.{After, Refusal, RunAnswer, notRun, boardRefusal, stationRefusal, stationAt}
 use Rattle.model.specs.Calls.{stations}
 use Rattle.model.specs.Calls.{islands, lay, propose, notGoing, access, stepped, stepOn, step, run}
+use Rattle.model.specs.Runs.{after}
 use Rattle.model.proofs.Basics.Tests.{clash}
 use Rattle.model.proofs.Listing.Cases.{ended-case, read-case}
 use Rattle.model.proofs.Listing.Going.{Going}
@@ -70,6 +72,14 @@ stepOn-refused i b =
     (stationRefusal i b (notGoing (stationAt i b))) refused b _
     (λ e f. stepped-refused (stations b) (islands b) (i - 1) (stationAt i b) b (station-of i b _ e .1) f)
     (λ k e f. refl)
+
+-- and so does every step of that station that would follow
+pub refused-again : (i : ℕ) (b : List ℕ) → accepted (stepOn i b .answer) ≡ false → (k : ℕ)
+    → after stepOn b (replicate k i) ≡ b
+unfolding after
+refused-again i b e zero = refl
+refused-again i b e (suc k) =
+    ap (λ (d : List ℕ). after stepOn d (replicate k i)) (stepOn-refused i b e) ∙ refused-again i b e k
 
 pub step-refused : (i : ℕ) (b : List ℕ) → accepted (step i b .answer) ≡ false → step i b .bytes ≡ b
 unfolding step

@@ -5,13 +5,14 @@ use Rattle.model.proofs.Kit.{none, some, ℕ, zero, suc, _+_, _≤_, length, re
 use Rattle.model.specs.declared.Verdict.{Verdict}
 use Rattle.model.specs.declared.Verdict.the-variants as verdicts
 use Rattle.model.specs.declared.RoundsVerdict.the-variants.{Played, Refused}
-use Rattle.model.specs.Calls.{After, RunAnswer, Refusal, unlessRefused, stations, boardRefusal, stepOn, step, ranFrom}
-use Rattle.model.specs.Rounds.{RoundsAnswer, played, notPlayed, names, inTurn, roundSteps, roundsSteps, decidedOn}
+use Rattle.model.specs.Calls.{After, stations, boardRefusal, stepOn, step}
+use Rattle.model.specs.Rounds.{RoundsAnswer, played, names, inTurn, roundSteps, roundsSteps, decidedOn}
 use Rattle.model.specs.Rounds.{playedTo, roundsRefusal, rounds}
 use Rattle.model.specs.Runs.{after}
 use Rattle.model.specs.Told.{verdict, roundsTold}
 use Rattle.model.proofs.Calls.Refusals.{board-of, board-passes}
-use Rattle.model.proofs.Calls.Runs.{ran-is, ran-on}
+use Rattle.model.proofs.Calls.Runs.{after-on}
+use Rattle.model.proofs.Calls.Rounds as model
 use Rattle.halts.specs.Needs as halts
 use Rattle.soundness.proofs.Laws.Placing.{n-high}
 use Rattle.rounds.specs.Asked.{Refuses}
@@ -114,14 +115,10 @@ module _ (k : ℕ) (rs : List (List ℕ)) (b : List ℕ) where
   -- refused: the number, and the board as it was
   pub rounds-refused : (number : ℕ) → roundsRefusal k rs b ≡ some number
       → (roundsTold (Refused number) ≡ rounds k rs b .answer) × (b ≡ rounds k rs b .bytes)
-  unfolding rounds unlessRefused roundsTold
-  rounds-refused number e = (
-    ap (λ (r : Refusal). unlessRefused r notPlayed b ok .answer) (sym e),
-    ap (λ (r : Refusal). unlessRefused r notPlayed b ok .bytes) (sym e),
-  )
-    where
-      ok : After RoundsAnswer
-      ok = playedTo (length rs) (ranFrom step 0 0 (roundsSteps (stations b) rs) b .bytes)
+  unfolding roundsTold
+  rounds-refused number e =
+      let q = sym (model.rounds-turned k rs b number e) in
+      (ap (λ (x : After RoundsAnswer). x .answer) q, ap (λ (x : After RoundsAnswer). x .bytes) q)
 
   -- played: how many rounds, how many stand decided, and the board that the single steps leave
   pub rounds-played : (count : ℕ) (d : List ℕ) (decided : ℕ) → roundsRefusal k rs b ≡ none
@@ -129,18 +126,15 @@ module _ (k : ℕ) (rs : List (List ℕ)) (b : List ℕ) where
       → d ≡ afterRounds rs b
       → decided ≡ decidedOn d
       → (roundsTold (Played count decided) ≡ rounds k rs b .answer) × (d ≡ rounds k rs b .bytes)
-  unfolding rounds roundsRefusal unlessRefused roundsTold playedTo
+  unfolding roundsRefusal roundsTold playedTo
   rounds-played count d decided e c h q = (
     (λ i. played (c i) (q i)) ∙ ap (λ (x : List ℕ). played (length rs) (decidedOn x)) left
-        ∙ ap (λ (r : Refusal). unlessRefused r notPlayed b ok .answer) (sym e),
-    left ∙ ap (λ (r : Refusal). unlessRefused r notPlayed b ok .bytes) (sym e),
+        ∙ ap (λ (x : After RoundsAnswer). x .answer) all,
+    left ∙ ap (λ (x : After RoundsAnswer). x .bytes) all,
   )
     where
-      ok : After RoundsAnswer
-      ok = playedTo (length rs) (ranFrom step 0 0 (roundsSteps (stations b) rs) b .bytes)
+      all : playedTo (length rs) (after step b (roundsSteps (stations b) rs)) ≡ rounds k rs b
+      all = sym (model.rounds-pass k rs b e)
 
-      left : d ≡ ranFrom step 0 0 (roundsSteps (stations b) rs) b .bytes
-      left =
-          h ∙ sym (ap (λ (x : After RunAnswer). x .bytes)
-          (ran-on 0 0 (roundsSteps (stations b) rs) b (board-of b _ e .0)
-          ∙ ran-is stepOn 0 0 (roundsSteps (stations b) rs) b))
+      left : d ≡ after step b (roundsSteps (stations b) rs)
+      left = h ∙ sym (after-on (roundsSteps (stations b) rs) b (board-of b _ e .0))

@@ -10,7 +10,7 @@ use Rattle.model.specs.Rounds.{inTurn}
 use Rattle.model.specs.Runs.{taken, answers, after}
 use Rattle.model.specs.Told.{told}
 use Rattle.model.proofs.Basics.Tests.{by-test}
-use Rattle.model.proofs.Calls.Refused.{stepOn-refused}
+use Rattle.model.proofs.Calls.Refused.{stepOn-refused, refused-again}
 use Rattle.model.proofs.Calls.Runs.{after-append, ran-both}
 use Rattle.stepping.specs.Stepped.{StepsOn, RunsOn, counts}
 use Rattle.stepping.proofs.Laws.Joined.{runs-sound, runs-head, runs-length}
@@ -68,19 +68,11 @@ module _ (b : List ℕ) (s i : ℕ) (d : List ℕ) (r : Ran b (replicate i s) d)
           (λ y. absurd (omega (arith, ap {B = ℕ} (λ (x : Bool). cond x 1 0) y)))
           (λ n. n)
 
-      same : stepOn s d .bytes ≡ d
-      same = stepOn-refused s d not-accepted
-
-      stays : (m : ℕ) → after stepOn d (replicate m s) ≡ d
-      unfolding after
-      stays zero = refl
-      stays (suc m) = ap (λ (x : List ℕ). after stepOn x (replicate m s)) same ∙ stays m
-
       pub steps-refused : (count : ℕ) → i < count → e ≡ after stepOn b (replicate count s)
       unfolding StepsOn
       steps-refused count l =
           let whole : i + (count - i) ≡ count = omega arith in
-          one .1 ∙ same ∙ sym (stays (count - i))
+          one .1 ∙ stepOn-refused s d not-accepted ∙ sym (refused-again s d not-accepted (count - i))
           ∙ ap (λ (x : List ℕ). after stepOn x (replicate (count - i) s)) (r .bytes)
           ∙ sym (after-append stepOn b (replicate i s) (replicate (count - i) s))
           ∙ ap (after stepOn b) (replicate-append-replicate i (count - i) s
