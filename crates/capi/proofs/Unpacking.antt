@@ -50,7 +50,8 @@ unfolding packRounds
 rounds-parts r d h = omega arith
 
 -- and no answer of a call that was made is all ones
-pub rounds-never-all-ones : (w : RoundsVerdict) → FewRounds w → Bytes w → packRounds (roundsTold w) < 18446744073709551615
+pub rounds-never-all-ones : (w : RoundsVerdict) → FewRounds w → Bytes w
+    → packRounds (roundsTold w) < 18446744073709551615
 unfolding packRounds FewRounds Bytes roundsTold
 rounds-never-all-ones (byRound.Played r d) f b = omega arith
 rounds-never-all-ones (byRound.Refused k) f b = omega arith

@@ -31,7 +31,8 @@ module _ {A : Type 0} where
   unfoldable pub playable : (laid : ℕ) (buffer : List ℕ) → A → A → A
   playable laid d given other = cond (leb 512 (length d) && leb laid 4294967295) given other
 
-  -- and one whose rounds are at most as many as a number of 32 bits tells; they are no more than the bytes that list them
+  -- and one whose rounds are at most as many as a number of 32 bits tells, since they are no more than the bytes that
+  -- list them
   unfoldable pub countable : (named : List ℕ) → A → A → A
   countable named given other = cond (leb (length named) 4294967295) given other
 

@@ -17,9 +17,9 @@ use Rattle.sheet.specs.LineForms.{lineForm}
 use Rattle.stepping.specs.Stepped.{RunsOn}
 use Rattle.line_run.specs.declared.PartRun.{PartRun}
 
--- the round to go on with after round i: none of those that are left, where no step was taken
-unfoldable pub roundAfter : (i rounds taken : ℕ) → ℕ
-roundAfter i rounds taken = cond (eqb taken 0) rounds (i + 1)
+-- the repeat to go on with after repeat i: none of those that are left, where no step was taken
+unfoldable pub repeatAfter : (i repeats taken : ℕ) → ℕ
+repeatAfter i repeats taken = cond (eqb taken 0) repeats (i + 1)
 
 -- what a run of the steps `is` of a part of a line leaves: it started at `at` with the board b, and `rest` follows
 pub record RanPart (line : List ℕ) (at : ℕ) (is rest b : List ℕ) (r : PartRun) (d : List ℕ) : Type 0 where

@@ -6,7 +6,7 @@ ghost use mathlib.Core.Path.{_≡_};
 ghost use mathlib.Core.Option.{none};
 ghost use Prim.Native.Nat.{_<_};
 ghost use Rattle.model.specs.Calls.{boardRefusal};
-ghost use Rattle.line_run.specs.LineRuns.{roundAfter, ItemReads, ItemsRead, ItemRuns, ItemsRun, LineCounts, RunsLine};
+ghost use Rattle.line_run.specs.LineRuns.{repeatAfter, ItemReads, ItemsRead, ItemRuns, ItemsRun, LineCounts, RunsLine};
 use lexer::known::known_number;
 use model::RunVerdict;
 use model::Verdict;
@@ -20,14 +20,14 @@ pub struct PartRun {
     pub next: usize,
 }
 
-// The round after round i of some, by the steps taken in it. A round that takes no step leaves the board as it was, and so
+// The repeat after repeat i of some, by the steps taken in it. A repeat that takes no step leaves the board as it was, and so
 // would every later one: they are passed over, so that a line costs no more than the steps that it takes.
-fn round_after(i: u32, rounds: u32, taken: u32) -> u32
-    requires { ⌜ i < rounds ⌝ }
-    ensures { λ r. ⌜ r ≡ roundAfter i rounds taken ⌝ }
+fn repeat_after(i: u32, repeats: u32, taken: u32) -> u32
+    requires { ⌜ i < repeats ⌝ }
+    ensures { λ r. ⌜ r ≡ repeatAfter i repeats taken ⌝ }
 {
     if taken == 0 {
-        return rounds;
+        return repeats;
     }
     i + 1
 }
@@ -47,16 +47,16 @@ fn run_item(board: &mut [u8], line: &[u8], at: usize) -> PartRun
     }
     let word = b"(times ";
     let times = known_number(line, at + word.len());
-    let rounds = times.value;
+    let repeats = times.value;
     let inner = times.next;
     let mut total: u32 = 0;
     let mut next = inner;
     let mut i = 0;
-    while i < rounds {
+    while i < repeats {
         let run = run_items(board, line, inner);
         total += run.taken;
         next = run.next;
-        i = round_after(i, rounds, run.taken);
+        i = repeat_after(i, repeats, run.taken);
     }
     PartRun { taken: total, next }
 }

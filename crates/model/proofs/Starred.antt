@@ -48,8 +48,8 @@ unfolding Starred Holds rows sheet asLines layIn number digits part splice zeros
     unlessRefused lay putRecord putRegister notIdle propose notGoing access stepped stepOn step ranFrom run textFrom
     text decimalIn decimal signed worded standingText standingOf status statuses shownLine shownAs show repeated
     expandItem expand found andThen spaced digit digitsFrom natural numberIn figureIn behind timesIn itemIn itemsIn
-    same closing wordRows boardRow proposeRow stepsRow showRow roundsRow rowIn upToStop firstWord wordPlace formIn one tooDeep
-    orFour readLine refusedText orRefused laidText proposedText ranText shownText turnedDown playBoard onBoard
+    same closing wordRows boardRow proposeRow stepsRow showRow roundsRow rowIn upToStop firstWord wordPlace formIn one
+    tooDeep orFour readLine refusedText orRefused laidText proposedText ranText shownText turnedDown playBoard onBoard
     playForm playReading playLine onFirst endedBy printed playSheet outcome ranges
     count listIn stationsIn roundIn roundsIn names inTurn roundSteps roundsSteps settled allSettled rising roundKnown
     roundsKnown roundsRefusal standsDecided decidedOn playedTo rounds playedText

@@ -1,7 +1,7 @@
 -- 02, One, "Halts by the round": a call that plays rounds, each spelled out as its single steps.
 -- Relies on the calls; the sheet's form `rounds`, the public call and the whole-step law rely on it.
-use Rattle.model.specs.Kit.{Bool, true, false, _&&_, _||_, cond, List, [], _∷_, _++_, none, ℕ, zero, suc, _+_, eqb}
-use Rattle.model.specs.Kit.{leb, ltb, length, replicate}
+use Rattle.model.specs.Kit.{Bool, true, false, _&&_, _||_, cond, List, [], _∷_, _++_, none, ℕ, zero, suc, _+_}
+use Rattle.model.specs.Kit.{eqb, leb, ltb, length, replicate}
 use Rattle.model.specs.Bytes.{every, count, endedBy}
 use Rattle.model.specs.Figure.{Figure}
 use Rattle.model.specs.Listing.{writing, reading, has-decided, is-spent, Station, idle, active}
@@ -23,7 +23,8 @@ inTurn steps zero suspended = []
 inTurn steps (suc i) suspended = inTurn steps i suspended ++ cond (suspended (suc i)) [] (replicate steps (suc i))
 
 -- "every other going station takes one whole step, a write and its collect, in station order": on a board that passes
--- 18 the write and its collect are n + 1 single steps, and the other stations' steps are refused (specs/WholeSteps.antt)
+-- 18 the write and its collect are n + 1 single steps, and the steps of a station that is not going are refused
+-- (specs/WholeSteps.antt)
 unfoldable pub roundSteps : (n : ℕ) → (round : List ℕ) → List ℕ
 roundSteps n r = inTurn (n + 1) n (λ i. names i r)
 

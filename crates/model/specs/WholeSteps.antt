@@ -1,5 +1,6 @@
 -- What the single steps of a round are, as 02 says it: "every other going station takes one whole step, a write and its
--- collect". Relies on the rounds and on the paper's lines of a collect; proofs/Bridge/WholeSteps.antt proves `WholeSteps`.
+-- collect".
+-- Relies on the rounds and on the paper's lines of a collect; proofs/Bridge/SettledAgain.antt proves `WholeSteps`.
 use Rattle.model.specs.Kit.{true, List, [], _∷_, _++_, none, some, ℕ, zero, suc, _+_, _*_, _-_, _≤_, replicate}
 use mathlib.Core.Path.{_≡_}
 use Prim.Native.Nat.{_<_}

@@ -29,7 +29,8 @@ module _ (k : ℕ) (named b : List ℕ) where
         go (byRound.Played r s) e = unfold FewRounds lentRounds in
             omega (
               arith,
-              rounds-told k (lentRounds named) b r s (sym (answered .0) ∙ ap roundsTold e ∙ (unfold roundsTold in refl)),
+              rounds-told k (lentRounds named) b r s
+                  (sym (answered .0) ∙ ap roundsTold e ∙ (unfold roundsTold in refl)),
               parts-fewer roundEnd named,
             )
         go (byRound.Refused j) e = unfold FewRounds in tt

@@ -1,13 +1,13 @@
 -- The rounds of a line one after another: what has been played at each place where the next round begins.
 -- Relies on the model's written rounds and on steps put together; the proof of `play_rounds_at` relies on it.
-use Rattle.model.proofs.Kit.{_≡_, refl, sym, ap, subst, _∙_, Bool, List, [], _∷_, _++_, append-assoc, append-nil, none}
+use Rattle.model.proofs.Kit.{_≡_, refl, sym, ap, subst, _∙_, List, [], _∷_, _++_, append-assoc, append-nil, none}
 use Rattle.model.proofs.Kit.{ℕ, _+_, _-_, _≤_, _<_, length, drop, getD, lt-of-not-le, drop-of-length-le, arith}
 use Rattle.model.specs.Bytes.{byte}
 use Rattle.model.specs.Show.{text, textFrom}
 use Rattle.model.specs.Calls.{stations, boardRefusal, stepOn}
 use Rattle.model.specs.Forms.{found, roundIn, roundsIn}
 use Rattle.model.specs.Grammar.{Each, writtenList, writtenRound}
-use Rattle.model.specs.Rounds.{inTurn, roundSteps, roundsSteps}
+use Rattle.model.specs.Rounds.{roundsSteps}
 use Rattle.model.specs.Runs.{after}
 use Rattle.model.proofs.Basics.Tests.{impossible}
 use Rattle.model.proofs.Sheet.Readers.{Always}
@@ -123,7 +123,8 @@ module _ (line : List ℕ) (at : ℕ) (b : List ℕ) where
       round-stands = record { round = next .round; rest = _; read = next .read }
 
       module _ (r : RoundAt) (round-is : RoundIs line (place + 1) r) where
-        there : RoundRead line (place + 1) (next .round) (writtenList writtenRound (next .later) ++ (41 ∷ passed .rest)) r
+        there : RoundRead line (place + 1) (next .round)
+            (writtenList writtenRound (next .later) ++ (41 ∷ passed .rest)) r
         unfolding RoundIs
         there = round-is (next .round) _ (next .read)
 

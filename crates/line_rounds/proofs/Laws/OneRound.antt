@@ -1,14 +1,13 @@
 -- One round as it stands in a line: its stations one after another, each behind the bracket or a space.
--- Relies on the model's written rounds and on a number that is known to stand at a place; the proof of `round_at` relies
--- on it.
-use Rattle.model.proofs.Kit.{_≡_, refl, sym, ap, subst, _∙_, Bool, true, false, _||_, List, [], _∷_, _++_, append-nil}
-use Rattle.model.proofs.Kit.{append-assoc, ℕ, zero, suc, _+_, _-_, _≤_, _<_, eqb, length, drop, length-drop, getD, w8, Fits}
+-- Relies on the model's written rounds and on a number that is known to stand at a place; the proof of `round_at`
+-- relies on it.
+use Rattle.model.proofs.Kit.{_≡_, refl, sym, ap, subst, _∙_, Bool, false, List, [], _∷_, _++_, append-nil}
+use Rattle.model.proofs.Kit.{append-assoc, ℕ, _+_, _-_, _≤_, _<_, length, drop, length-drop, getD, w8, Fits}
 use Rattle.model.proofs.Kit.{drop-of-length-le, lt-of-not-le, length-append, drop-drop, arith}
 use Rattle.model.specs.Bytes.{byte}
 use Rattle.model.specs.Show.{text, textFrom, decimal}
 use Rattle.model.specs.Forms.{found, digit, numberIn, roundIn}
 use Rattle.model.specs.Grammar.{Each, writtenList, writtenRound}
-use Rattle.model.specs.Rounds.{names}
 use Rattle.model.proofs.Basics.Tests.{impossible, clash}
 use Rattle.model.proofs.Sheet.Readers.{Always}
 use Rattle.model.proofs.Sheet.Numbers.{decimal-begins}
@@ -21,7 +20,6 @@ use Rattle.lexer.proofs.Laws.Known.{stands-there, known-found}
 use Rattle.lexer.proofs.Laws.Places.{first-byte, behind-first}
 use Rattle.rounds.specs.Suspended.{Suspends, Adds}
 use Rattle.rounds.proofs.Laws.Suspended.{suspends-more}
-use Rattle.line_rounds.specs.declared.RoundAt.{RoundAt}
 use Rattle.line_rounds.specs.LineRounds.{RoundStands, RoundRead, RoundIs}
 
 -- ---- a round and its text

@@ -1,13 +1,13 @@
 -- `run_item` and `run_items` meet their contracts. Each call is at a later place of the line, so
--- that the bytes left are the measure of both; a loop over rounds, and one over the items of a list, each keep what has
--- been run.
+-- that the bytes left are the measure of both; a loop over repeats, and one over the items of a list, each keep what
+-- has been run.
 use Rattle.model.proofs.Kit.{ℕ, _-_, _<_, needs, length, arith}
 use Rattle.sheet.proofs.Laws.Items.{falls-to}
-use Rattle.line_run.proofs.Laws.RunItems.{item-inside, station-stands, station-fits, one-step, Rounds}
-use Rattle.line_run.proofs.Laws.RunItems.{rounds-stand}
-use Rattle.line_run.proofs.Laws.RunItems.{rounds-place, times-behind, rounds-begin, round-reads, round-fits}
-use Rattle.line_run.proofs.Laws.RunItems.{rounds-end}
-use Rattle.line_run.proofs.Laws.Idle.{fewer-left, round-on}
+use Rattle.line_run.proofs.Laws.RunItems.{item-inside, station-stands, station-fits, one-step, Repeats}
+use Rattle.line_run.proofs.Laws.RunItems.{repeats-stand}
+use Rattle.line_run.proofs.Laws.RunItems.{repeats-place, times-behind, repeats-begin, repeat-reads, repeat-fits}
+use Rattle.line_run.proofs.Laws.RunItems.{repeats-end}
+use Rattle.line_run.proofs.Laws.Idle.{fewer-left, repeat-on}
 use Rattle.line_run.proofs.Laws.Passing.{Passed, passed-begin, passed-inside, next-behind, at-inside, item-reads}
 use Rattle.line_run.proofs.Laws.Passing.{passed-fits, passed-less, passed-more, passed-end}
 use borrow.Fn.Kinds.{In}
@@ -21,7 +21,7 @@ use Rattle.line_run.proofs.+run_item+run_items.Lts-run_items as run-ite
 use Rattle.stepping.proofs.running.taken.Reads as taken-reads
 use Rattle.stepping.proofs.sound_step.step_on.Reads as step-on-reads
 use Rattle.lexer.proofs.known.known_number.Reads as known-number-reads
-use Rattle.line_run.proofs.round_after.Reads as round-after-reads
+use Rattle.line_run.proofs.repeat_after.Reads as repeat-after-reads
 use Rattle.line_run.proofs.+run_item+run_items.{statement}
 use Rattle.line_run.proofs.+run_item+run_items.Tie.{close}
 
@@ -60,16 +60,16 @@ run-item-claims t = (
   taken-reads.Learnt,
   run-items-below t,
   run-items.Post,
-  round-after-reads.Asked,
-  round-after-reads.Learnt,
+  repeat-after-reads.Asked,
+  repeat-after-reads.Learnt,
 )
 
 abbrev run-item-Inv-loop : run-item-lts.InvT-loop
-run-item-Inv-loop board₀ line at rounds inner total₀ next₀ i₀ board total next i =
-    Rounds line board₀ rounds inner board total next i
+run-item-Inv-loop board₀ line at repeats inner total₀ next₀ i₀ board total next i =
+    Repeats line board₀ repeats inner board total next i
 
 abbrev run-item-μ-loop : run-item-lts.MeasureT-loop
-run-item-μ-loop board₀ line at rounds inner total₀ next₀ i₀ board total next i = rounds - i
+run-item-μ-loop board₀ line at repeats inner total₀ next₀ i₀ board total next i = repeats - i
 
 abbrev run-items-Inv-loop : run-items-lts.InvT-loop
 run-items-Inv-loop board₀ line at total₀ place₀ board total place = Passed line at board₀ board total place
@@ -89,16 +89,16 @@ pub +run-item+run-items-spec : {M : Type 1} → statement M
     (λ c. search one-step)
     (λ c.
     let b = c .before .before .before in
-    record { fits = omega (arith, rounds-place _ _ (c .before .if1 .left) (b .before .before .pre .1 .1)) })
-    (λ c κs. rounds-stand _ _ (c .before .if1 .left) (search))
-    (λ c. search rounds-begin)
-    (λ c κs. search (falls-to, times-behind, item-inside, round-reads))
-    (λ c. search round-fits)
+    record { fits = omega (arith, repeats-place _ _ (c .before .if1 .left) (b .before .before .pre .1 .1)) })
+    (λ c κs. repeats-stand _ _ (c .before .if1 .left) (search))
+    (λ c. search repeats-begin)
+    (λ c κs. search (falls-to, times-behind, item-inside, repeat-reads))
+    (λ c. search repeat-fits)
     (λ c κs. search needs)
     (λ c. search fewer-left)
-    (λ c. search round-on)
+    (λ c. search repeat-on)
     (λ c. search needs)
-    (λ c. search rounds-end))
+    (λ c. search repeats-end))
     (λ t. run-items-lts.spec (run-items-claims t) (run-items-at t) run-items.Post run-items-Inv-loop run-items-μ-loop
     (λ c. search passed-begin)
     (λ c. search passed-inside)

@@ -1,4 +1,4 @@
--- A round in which no step is taken: the board stays as it was, and so it does in every round that would follow.
+-- A repeat in which no step is taken: the board stays as it was, and so it does in every repeat that would follow.
 -- Relies on runs put together of runs and on the model's refused steps; the proof of `run_item` and `run_items` relies
 -- on it.
 use Rattle.model.proofs.Kit.{_≡_, refl, sym, ap, subst, _∙_, subst₂, Bool, true, false, cond, List, [], _∷_, _++_}
@@ -14,8 +14,8 @@ use Rattle.model.proofs.Calls.Refused.{stepOn-refused}
 use Rattle.stepping.specs.Stepped.{RunsOn}
 use Rattle.stepping.proofs.Laws.Joined.{runs-none, runs-then}
 use Rattle.line_run.specs.declared.PartRun.{PartRun}
-use Rattle.line_run.specs.LineRuns.{roundAfter, RanPart, ItemsRun}
-use Rattle.line_run.proofs.Laws.RunItems.{Rounds, round-ran, round-more}
+use Rattle.line_run.specs.LineRuns.{repeatAfter, RanPart, ItemsRun}
+use Rattle.line_run.proofs.Laws.RunItems.{Repeats, repeat-ran, repeat-more}
 
 -- ---- runs that take no step
 
@@ -52,68 +52,69 @@ repeated-join (suc i) j l =
     append-assoc l (repeated i l) (repeated j l) ∙ ap (λ (x : List ℕ). l ++ x) (repeated-join i j l)
     ∙ ap (λ (n : ℕ). repeated n l) (sym (suc-add i j))
 
--- ---- the rounds of an item
+-- ---- the repeats of an item
 
-module _ (i rounds t : ℕ) where
-  later : i < rounds → i < roundAfter i rounds t
-  unfolding roundAfter
-  later h = cond-case (λ (r : ℕ). i < r) (eqb t 0) rounds (i + 1) (λ e. h) (λ e. omega arith)
+module _ (i repeats t : ℕ) where
+  later : i < repeats → i < repeatAfter i repeats t
+  unfolding repeatAfter
+  later h = cond-case (λ (r : ℕ). i < r) (eqb t 0) repeats (i + 1) (λ e. h) (λ e. omega arith)
 
-  pub fewer-left : i < rounds → (r : ℕ) → r ≡ roundAfter i rounds t → rounds - r < rounds - i
+  pub fewer-left : i < repeats → (r : ℕ) → r ≡ repeatAfter i repeats t → repeats - r < repeats - i
   fewer-left h r e = omega (arith, later h)
 
-  pub none-left : t ≡ 0 → rounds ≡ roundAfter i rounds t
-  unfolding roundAfter
-  none-left e = ap (λ (s : Bool). cond s rounds (i + 1)) (sym (eq-eqb t 0 e))
+  pub none-left : t ≡ 0 → repeats ≡ repeatAfter i repeats t
+  unfolding repeatAfter
+  none-left e = ap (λ (s : Bool). cond s repeats (i + 1)) (sym (eq-eqb t 0 e))
 
-  pub one-more : (t ≡ 0 → ⊥) → i + 1 ≡ roundAfter i rounds t
-  unfolding roundAfter
-  one-more f = ap (λ (s : Bool). cond s rounds (i + 1)) (sym (ne-eqb t 0 f))
+  pub one-more : (t ≡ 0 → ⊥) → i + 1 ≡ repeatAfter i repeats t
+  unfolding repeatAfter
+  one-more f = ap (λ (s : Bool). cond s repeats (i + 1)) (sym (ne-eqb t 0 f))
 
 module _ (line b : List ℕ) (k inner : ℕ) (d : List ℕ) (total place i : ℕ)
-    (rounds : Rounds line b k inner d total place i) (more : i < k)
+    (repeats : Repeats line b k inner d total place i) (more : i < k)
     (w : PartRun) (e : List ℕ) (runs : ItemsRun line inner d w e) where
-  idle-rounds : w .taken ≡ 0 → Rounds line b k inner e (total + w .taken) (w .next) k
-  idle-rounds z = record {
-    fuel = rounds .fuel;
-    items = rounds .items;
-    rest = rounds .rest;
-    read = rounds .read;
-    few = rounds .few;
+  idle-repeats : w .taken ≡ 0 → Repeats line b k inner e (total + w .taken) (w .next) k
+  idle-repeats z = record {
+    fuel = repeats .fuel;
+    items = repeats .items;
+    rest = repeats .rest;
+    read = repeats .read;
+    few = repeats .few;
     ran = all;
     most = omega arith;
     ended = λ l. (this .follows, this .behind, this .inside);
-    sound = subst (λ (x : List ℕ). boardRefusal x none ≡ none) (sym stays) (rounds .sound);
-    len = ap length stays ∙ rounds .len;
+    sound = subst (λ (x : List ℕ). boardRefusal x none ≡ none) (sym stays) (repeats .sound);
+    len = ap length stays ∙ repeats .len;
   }
     where
-      this : RanPart line inner (expand (rounds .items)) (rounds .rest) d w e
-      this = round-ran line b k inner d total place i rounds more w e runs
+      this : RanPart line inner (expand (repeats .items)) (repeats .rest) d w e
+      this = repeat-ran line b k inner d total place i repeats more w e runs
 
-      idle : RunsOn (expand (rounds .items)) d 0 e
-      idle = subst (λ (n : ℕ). RunsOn (expand (rounds .items)) d n e) z (this .ran)
+      idle : RunsOn (expand (repeats .items)) d 0 e
+      idle = subst (λ (n : ℕ). RunsOn (expand (repeats .items)) d n e) z (this .ran)
 
       stays : e ≡ d
-      stays = runs-idle (expand (rounds .items)) d e idle
+      stays = runs-idle (expand (repeats .items)) d e idle
 
-      left : RunsOn (repeated (k - i) (expand (rounds .items))) d 0 d
-      left = idle-again (expand (rounds .items)) d (subst (RunsOn (expand (rounds .items)) d 0) stays idle) (k - i)
+      left : RunsOn (repeated (k - i) (expand (repeats .items))) d 0 d
+      left = idle-again (expand (repeats .items)) d (subst (RunsOn (expand (repeats .items)) d 0) stays idle) (k - i)
 
-      all : RunsOn (repeated k (expand (rounds .items))) b (total + w .taken) e
+      all : RunsOn (repeated k (expand (repeats .items))) b (total + w .taken) e
       all =
           subst₂ (λ (l : List ℕ) (x : List ℕ). RunsOn l b (total + w .taken) x)
-          (repeated-join i (k - i) (expand (rounds .items)) ∙ ap (λ (n : ℕ). repeated n (expand (rounds .items))) whole)
+          (repeated-join i (k - i) (expand (repeats .items))
+          ∙ ap (λ (n : ℕ). repeated n (expand (repeats .items))) whole)
           (sym stays)
-          (subst (λ (n : ℕ). RunsOn (repeated i (expand (rounds .items)) ++ repeated (k - i) (expand (rounds .items))) b
-          (total + n) d) (sym z) (runs-then _ _ b d d total 0 (rounds .ran) left))
+          (subst (λ (n : ℕ). RunsOn
+          (repeated i (expand (repeats .items)) ++ repeated (k - i) (expand (repeats .items))) b (total + n) d) (sym z) (runs-then _ _ b d d total 0 (repeats .ran) left))
         where
           whole : i + (k - i) ≡ k
           whole = omega arith
 
-  pub round-on : (r : ℕ) → r ≡ roundAfter i k (w .taken) → Rounds line b k inner e (total + w .taken) (w .next) r
-  unfolding roundAfter
-  round-on r h =
-      subst (λ (s : ℕ). Rounds line b k inner e (total + w .taken) (w .next) s) (sym h)
-      (cond-case (λ (s : ℕ). Rounds line b k inner e (total + w .taken) (w .next) s) (eqb (w .taken) 0) k (i + 1)
-      (λ t. idle-rounds (eqb-true (w .taken) 0 t))
-      (λ t. round-more line b k inner d total place i rounds more w e runs))
+  pub repeat-on : (r : ℕ) → r ≡ repeatAfter i k (w .taken) → Repeats line b k inner e (total + w .taken) (w .next) r
+  unfolding repeatAfter
+  repeat-on r h =
+      subst (λ (s : ℕ). Repeats line b k inner e (total + w .taken) (w .next) s) (sym h)
+      (cond-case (λ (s : ℕ). Repeats line b k inner e (total + w .taken) (w .next) s) (eqb (w .taken) 0) k (i + 1)
+      (λ t. idle-repeats (eqb-true (w .taken) 0 t))
+      (λ t. repeat-more line b k inner d total place i repeats more w e runs))

@@ -105,8 +105,8 @@ unfolding repeated
 repeated-last zero l = sym (append-nil l)
 repeated-last (suc k) l = append-assoc l (repeated k l) l ∙ ap (λ (x : List ℕ). l ++ x) (repeated-last k l)
 
--- after i of the rounds over the items at `inner`
-pub record Rounds (line b : List ℕ) (k inner : ℕ) (d : List ℕ) (total after i : ℕ) : Type 0 where
+-- after i of the repeats over the items at `inner`
+pub record Repeats (line b : List ℕ) (k inner : ℕ) (d : List ℕ) (total after i : ℕ) : Type 0 where
   pub fuel : ℕ
   pub items : Items
   pub rest : List ℕ
@@ -119,73 +119,73 @@ pub record Rounds (line b : List ℕ) (k inner : ℕ) (d : List ℕ) (total afte
   pub len : length d ≡ length b
 
 module _ (line b : List ℕ) (k inner : ℕ) (d : List ℕ) (total after i : ℕ)
-    (rounds : Rounds line b k inner d total after i) (more : i < k) where
-  fewer : length (repeated (i + 1) (expand (rounds .items))) ≤ 65536
+    (repeats : Repeats line b k inner d total after i) (more : i < k) where
+  fewer : length (repeated (i + 1) (expand (repeats .items))) ≤ 65536
   fewer =
-      let steps : List ℕ = expand (rounds .items) in
+      let steps : List ℕ = expand (repeats .items) in
       let up : (i + 1) * length steps ≤ k * length steps = mul-le-mul-right (length steps) (omega arith) in
-      omega (arith, length-repeated (i + 1) steps, length-repeated k steps, rounds .few)
+      omega (arith, length-repeated (i + 1) steps, length-repeated k steps, repeats .few)
 
-  -- the items of a round are few enough to run
-  pub round-reads : ItemsRead line inner
-  round-reads =
-      let steps : List ℕ = expand (rounds .items) in
+  -- the items of a repeat are few enough to run
+  pub repeat-reads : ItemsRead line inner
+  repeat-reads =
+      let steps : List ℕ = expand (repeats .items) in
       let up : 1 * length steps ≤ k * length steps = mul-le-mul-right (length steps) (omega arith) in
       record {
-        fuel = rounds .fuel;
-        value = rounds .items;
-        rest = rounds .rest;
-        read = rounds .read;
-        few = omega (arith, length-repeated k steps, rounds .few);
+        fuel = repeats .fuel;
+        value = repeats .items;
+        rest = repeats .rest;
+        read = repeats .read;
+        few = omega (arith, length-repeated k steps, repeats .few);
       }
 
   module _ (w : PartRun) (e : List ℕ) (runs : ItemsRun line inner d w e) where
-    pub round-ran : RanPart line inner (expand (rounds .items)) (rounds .rest) d w e
+    pub repeat-ran : RanPart line inner (expand (repeats .items)) (repeats .rest) d w e
     unfolding PartRuns
-    round-ran = runs (rounds .fuel) (rounds .items) (rounds .rest) (rounds .read)
+    repeat-ran = runs (repeats .fuel) (repeats .items) (repeats .rest) (repeats .read)
 
-    joined : RunsOn (repeated (i + 1) (expand (rounds .items))) b (total + w .taken) e
+    joined : RunsOn (repeated (i + 1) (expand (repeats .items))) b (total + w .taken) e
     joined =
         subst (λ (l : List ℕ). RunsOn l b (total + w .taken) e)
-        (repeated-last i (expand (rounds .items))
-        ∙ ap (λ (n : ℕ). repeated n (expand (rounds .items))) (sym (add-one i)))
-        (runs-then _ _ b d e total (w .taken) (rounds .ran) (round-ran .ran))
+        (repeated-last i (expand (repeats .items))
+        ∙ ap (λ (n : ℕ). repeated n (expand (repeats .items))) (sym (add-one i)))
+        (runs-then _ _ b d e total (w .taken) (repeats .ran) (repeat-ran .ran))
 
-    pub round-fits : Fits w32 (total + w .taken)
-    round-fits = record { fits = omega (arith, runs-below _ _ _ _ joined, fewer) }
+    pub repeat-fits : Fits w32 (total + w .taken)
+    repeat-fits = record { fits = omega (arith, runs-below _ _ _ _ joined, fewer) }
 
-    pub round-more : Rounds line b k inner e (total + w .taken) (w .next) (i + 1)
-    round-more = record {
-      fuel = rounds .fuel;
-      items = rounds .items;
-      rest = rounds .rest;
-      read = rounds .read;
-      few = rounds .few;
+    pub repeat-more : Repeats line b k inner e (total + w .taken) (w .next) (i + 1)
+    repeat-more = record {
+      fuel = repeats .fuel;
+      items = repeats .items;
+      rest = repeats .rest;
+      read = repeats .read;
+      few = repeats .few;
       ran = joined;
       most = omega arith;
-      ended = λ l. (round-ran .follows, round-ran .behind, round-ran .inside);
-      sound = runs-sound (expand (rounds .items)) d e (w .taken) (rounds .sound) (round-ran .ran);
-      len = runs-length (expand (rounds .items)) d e (w .taken) (rounds .sound) (round-ran .ran) ∙ rounds .len;
+      ended = λ l. (repeat-ran .follows, repeat-ran .behind, repeat-ran .inside);
+      sound = runs-sound (expand (repeats .items)) d e (w .taken) (repeats .sound) (repeat-ran .ran);
+      len = runs-length (expand (repeats .items)) d e (w .taken) (repeats .sound) (repeat-ran .ran) ∙ repeats .len;
     }
 
 module _ (line : List ℕ) (at : ℕ) (bracket : getD line at 0 ≡ 40) (reads : ItemReads line at) where
   times-read : (r : Read ℕ) × (timesIn (drop at line) ≡ some r)
   times-read = begins line at reads (timesIn (drop at line)) _ (as-times line at bracket)
 
-  rounds-read : (numberIn 1 99999 (drop (at + 7) line) ≡ some (times-read .0)) × (at + 7 ≤ length line)
-  rounds-read = times-number line at (times-read .0) (times-read .1)
+  repeats-read : (numberIn 1 99999 (drop (at + 7) line) ≡ some (times-read .0)) × (at + 7 ≤ length line)
+  repeats-read = times-number line at (times-read .0) (times-read .1)
 
-  pub rounds-stand : NumberStands line (at + 7)
-  rounds-stand = stands-there line (at + 7) 1 99999 (omega arith) (times-read .0) (rounds-read .0)
+  pub repeats-stand : NumberStands line (at + 7)
+  repeats-stand = stands-there line (at + 7) 1 99999 (omega arith) (times-read .0) (repeats-read .0)
 
-  pub rounds-place : at + 7 ≤ length line
-  rounds-place = rounds-read .1
+  pub repeats-place : at + 7 ≤ length line
+  repeats-place = repeats-read .1
 
   module _ (n : KnownNumber) (is : KnownIs line (at + 7) n) where
     times-found : timesIn (drop at line) ≡ found (n .value) (drop (n .next) line)
     times-found =
-        times-read .1 ∙ sym (rounds-read .0)
-        ∙ known-found line (at + 7) 1 99999 (omega arith) (times-read .0) (rounds-read .0) n is
+        times-read .1 ∙ sym (repeats-read .0)
+        ∙ known-found line (at + 7) 1 99999 (omega arith) (times-read .0) (repeats-read .0) n is
 
     reads-inner : (fuel : ℕ)
         → itemIn (suc fuel) (drop at line)
@@ -208,16 +208,16 @@ module _ (line : List ℕ) (at : ℕ) (bracket : getD line at 0 ≡ 40) (reads :
     pub times-behind : at < n .next
     times-behind = omega (arith, is .inside .0)
 
-    some-rounds : 1 ≤ n .value
-    some-rounds = known-range line (at + 7) 1 99999 (omega arith) (times-read .0) (rounds-read .0) n is .0
+    some-repeats : 1 ≤ n .value
+    some-repeats = known-range line (at + 7) 1 99999 (omega arith) (times-read .0) (repeats-read .0) n is .0
 
     module _ (b : List ℕ) where
-      pub rounds-begin : boardRefusal b none ≡ none → Rounds line b (n .value) (n .next) b 0 (n .next) 0
+      pub repeats-begin : boardRefusal b none ≡ none → Repeats line b (n .value) (n .next) b 0 (n .next) 0
       unfolding itemIn found repeated expandItem
-      rounds-begin sound = by (reads .fuel) (reads .read)
+      repeats-begin sound = by (reads .fuel) (reads .read)
         where
           by : (fuel : ℕ) → itemIn fuel (drop at line) ≡ found (reads .value) (reads .rest)
-              → Rounds line b (n .value) (n .next) b 0 (n .next) 0
+              → Repeats line b (n .value) (n .next) b 0 (n .next) 0
           by zero q = never _ q
           by (suc fuel) q =
               let t = inner-of fuel (reads .value) (reads .rest) q in
@@ -234,21 +234,21 @@ module _ (line : List ℕ) (at : ℕ) (bracket : getD line at 0 ≡ 40) (reads :
                 len = refl;
               }
 
-      pub rounds-end : (d : List ℕ) (total after i : ℕ) → Rounds line b (n .value) (n .next) d total after i
+      pub repeats-end : (d : List ℕ) (total after i : ℕ) → Repeats line b (n .value) (n .next) d total after i
           → n .value ≤ i
           → ItemRuns line at b (record { taken = total; next = after }) d
       unfolding PartRuns itemIn found expandItem
-      rounds-end d total after i rounds l zero a rest q = never _ q
-      rounds-end d total after i rounds l (suc fuel) a rest q =
+      repeats-end d total after i repeats l zero a rest q = never _ q
+      repeats-end d total after i repeats l (suc fuel) a rest q =
           let t = inner-of fuel a rest q in
-          let same : (rounds .items ≡ t .0) × (rounds .rest ≡ rest) =
-          found-one _ _ _ _ (ap some (agree (rounds .fuel) fuel (drop (n .next) line) _ _ (rounds .read) (t .1))) in
-          let all : i ≡ n .value = omega (arith, rounds .most) in
-          let last = rounds .ended (omega (arith, some-rounds)) in
+          let same : (repeats .items ≡ t .0) × (repeats .rest ≡ rest) =
+          found-one _ _ _ _ (ap some (agree (repeats .fuel) fuel (drop (n .next) line) _ _ (repeats .read) (t .1))) in
+          let all : i ≡ n .value = omega (arith, repeats .most) in
+          let last = repeats .ended (omega (arith, some-repeats)) in
           record {
             ran =
                 subst (λ (x : Item). RunsOn (expandItem x) b total d) (t .2)
-                (subst₂ (λ (j : ℕ) (x : Items). RunsOn (repeated j (expand x)) b total d) all (same .0) (rounds .ran));
+                (subst₂ (λ (j : ℕ) (x : Items). RunsOn (repeated j (expand x)) b total d) all (same .0) (repeats .ran));
             follows = last .0 ∙ same .1;
             behind = omega (arith, times-behind, last .1);
             inside = last .2;

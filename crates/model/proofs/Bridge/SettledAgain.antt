@@ -1,15 +1,14 @@
 -- After a round nobody stands in the middle of a collect, and the claims of specs/WholeSteps.antt are proved here.
 -- Relies on the whole steps of a going station and on the refused steps of the others.
-use Rattle.model.proofs.Kit.{_≡_, refl, sym, ap, subst, subst₂, _∙_, Bool, true, inl, inr, _⊎_, List, [], _∷_, _++_}
+use Rattle.model.proofs.Kit.{_≡_, refl, sym, ap, subst, subst₂, _∙_, Bool, inl, inr, List, [], _∷_}
 use Rattle.model.proofs.Kit.{none, some, ℕ, zero, suc, _+_, _-_, _≤_, _<_, T, replicate, ℕ-discrete, arith}
-use Rattle.model.specs.Bytes.{every}
 use Rattle.model.specs.Figure.{Figure, figures}
-use Rattle.model.specs.Listing.{Register, Turn, turnM, turnA, turnB, Flag, adopt, commit, Stage, writing, reading}
+use Rattle.model.specs.Listing.{Register, Turn, turnM, turnA, turnB, Flag, adopt, commit, writing, reading}
 use Rattle.model.specs.Listing.{has-decided, is-spent, Station, idle, active, Answer, refused, Move, stay}
 use Rattle.model.specs.Collects.{Ends, returned}
 use Rattle.model.specs.Layout.{readRecord, recordValue, stationOf}
-use Rattle.model.specs.Calls.{After, Refusal, stations, islands, stationAt, unlessRefused, notGoing, stepped, stepOn}
-use Rattle.model.specs.Calls.{step}
+use Rattle.model.specs.Calls.{After, Refusal, stations, islands, stationAt, unlessRefused, notGoing, stepped}
+use Rattle.model.specs.Calls.{stepOn, step}
 use Rattle.model.specs.Runs.{after, answers}
 use Rattle.model.specs.Claims.{Passes}
 use Rattle.model.specs.Rounds.{names, inTurn, roundSteps, roundsSteps, settled, allSettled}
@@ -65,7 +64,8 @@ end-settled v K rs c (turnB g) m (f, y, h, e) = rw e (by f)
   where
     by : (f : Flag) → T (settled (active v (returned figures K c f y .stage)))
     by commit = unfold returned in tt
-    by adopt = unfold returned in onward-case K (λ (m : Move Figure). T (settled (active v (m .stage)))) c y (λ l. tt) tt
+    by adopt = unfold returned in
+        onward-case K (λ (m : Move Figure). T (settled (active v (m .stage)))) c y (λ l. tt) tt
 
 module _ (b : List ℕ) (q : T (allSettled b)) where
   pub each-settled : (j : ℕ) → j < stations b → T (settled (stationOf (stations b) (islands b) j b))

@@ -1,18 +1,18 @@
 -- The n + 1 single steps of a going station on a board that passes 18 are one write and one whole collect.
 -- Relies on the bridge of single steps and on the paper's lines of a collect; SettledAgain relies on it.
-use Rattle.model.proofs.Kit.{_≡_, refl, sym, ap, subst, subst₂, _∙_, Bool, true, false, cond, _&&_, List, [], _∷_}
-use Rattle.model.proofs.Kit.{_++_, none, some, ℕ, zero, suc, _+_, _-_, _*_, _≤_, _<_, eqb, eqb-true, eq-eqb}
-use Rattle.model.proofs.Kit.{length, replicate, add-one, ℕ-discrete, arith}
+use Rattle.model.proofs.Kit.{_≡_, refl, sym, ap, subst, subst₂, _∙_, _&&_, List, [], _∷_}
+use Rattle.model.proofs.Kit.{_++_, ℕ, zero, suc, _+_, _-_, _*_, _≤_, _<_, eqb, eqb-true, eq-eqb}
+use Rattle.model.proofs.Kit.{replicate, arith}
 use Rattle.model.specs.Figure.{Figure, figures}
-use Rattle.model.specs.Listing.{Turn, Register, empty, filled, Seen, nothing, Stage, writing, reading, Station, active, Array, inM}
-use Rattle.model.specs.Listing.{inA, inB, array, entry, Answer, wrote, read, Move, stay, see, move, placeArray}
+use Rattle.model.specs.Listing.{Turn, Register, Seen, nothing, Stage, writing, reading, Station, active, Array}
+use Rattle.model.specs.Listing.{inM, inA, inB, array, entry, Answer, wrote, read, Move, stay, see, move, placeArray}
 use Rattle.model.specs.Listing.{placeColumn}
 use Rattle.model.specs.Collects.{SomeFilled, Ends, through, Collects}
 use Rattle.model.specs.Layout.{rowOf, registerOf, recordOf, stationOf}
 use Rattle.model.specs.Calls.{stations, islands, stationAt, step}
 use Rattle.model.specs.Runs.{after, answers}
 use Rattle.model.specs.WholeSteps.{registersFrom, WholeStep}
-use Rattle.model.proofs.Basics.Tests.{by-test, both-true, clash, impossible}
+use Rattle.model.proofs.Basics.Tests.{by-test, both-true}
 use Rattle.model.proofs.Board.Places.{InBoard}
 use Rattle.model.proofs.Board.Values.{array-inside, SoundStation, sound-station}
 use Rattle.model.proofs.Board.Good.{GoodStation, GoodStage}
@@ -57,7 +57,8 @@ registers-row : (n : ℕ) (a : Array) (p k : ℕ) (b : List ℕ)
     → registersFrom n a p k b ≡ row (λ q. registerOf n a q b) p k
 unfolding registersFrom row
 registers-row n a p zero b = refl
-registers-row n a p (suc k) b = ap (λ (l : List (Register Figure)). registerOf n a p b ∷ l) (registers-row n a (p + 1) k b)
+registers-row n a p (suc k) b =
+    ap (λ (l : List (Register Figure)). registerOf n a p b ∷ l) (registers-row n a (p + 1) k b)
 
 -- ---- one station's steps, the others as they stand
 
@@ -139,7 +140,8 @@ module _ (n K i : ℕ) (low : 1 ≤ i) (own : i - 1 < n) (v : Figure) (t : Turn)
 
   -- The station writes and collects: from the board b, on which it stands before the write, with these registers after.
   module _ (b : List ℕ) (r : Ready n K b) (stands : stationOf n K (i - 1) b ≡ active v (writing t c x))
-      (others : S ≡ view n K b .station) (registers : R ≡ write (array t c) (i - 1) (entry t c x) (view n K b .register)) where
+      (others : S ≡ view n K b .station)
+      (registers : R ≡ write (array t c) (i - 1) (entry t c x) (view n K b .register)) where
     written-first : At (reading t c x 0 nothing) (step i b .bytes) × (step i b .answer ≡ wrote)
     unfolding alone moving moveOf move placeArray placeColumn
     written-first =
@@ -171,7 +173,8 @@ module _ (n K i : ℕ) (low : 1 ≤ i) (own : i - 1 < n) (v : Figure) (t : Turn)
     unfolding GoodStation GoodStage
     inside =
         let q : SoundBoard n K b = rw (r .isN, r .isK) at (r .board .sound-board) in
-        let g : SoundStation n K (i - 1) b (active v (writing t c x)) = rw stands at (sound-station n K b q (i - 1) own) in
+        let g : SoundStation n K (i - 1) b (active v (writing t c x)) =
+        rw stands at (sound-station n K b q (i - 1) own) in
         array-inside K t c (g .good)
 
     own-entry : R (array t c) (i - 1) ≡ entry t c x
@@ -215,15 +218,16 @@ module _ (n K i : ℕ) (low : 1 ≤ i) (own : i - 1 < n) (v : Figure) (t : Turn)
     unfolding last Collects
     collect-ends =
         subst (λ (rs : List (Register Figure)). Ends figures K rs c t last) (sym met)
-        (subst (λ (s : Stage Figure). Ends figures K (row (R (array t c)) 0 (n - 1) ++ (R (array t c) (0 + (n - 1)) ∷ []))
-        c t (move figures n K s (R (array t c) (0 + (n - 1))))) (all-reads .stage)
+        (subst (λ (s : Stage Figure). Ends figures K
+        (row (R (array t c)) 0 (n - 1) ++ (R (array t c) (0 + (n - 1)) ∷ [])) c t (move figures n K s (R (array t c) (0 + (n - 1))))) (all-reads .stage)
         (figures-collect n K t c x (row (R (array t c)) 0 (n - 1)) (R (array t c) (0 + (n - 1)))
         (omega (arith, row-length (R (array t c)) 0 (n - 1))) some-filled .1))
 
     all-steps : after step b (replicate (n + 1) i) ≡ step i before-last .bytes
     unfolding after before-last
     all-steps =
-        ap (after step b) (steps-split n i (omega arith)) ∙ after-append step (step i b .bytes) (replicate (n - 1) i) (i ∷ [])
+        ap (after step b) (steps-split n i (omega arith))
+        ∙ after-append step (step i b .bytes) (replicate (n - 1) i) (i ∷ [])
 
     all-answers : answers step b (replicate (n + 1) i) ≡ wrote ∷ (replicate (n - 1) read ++ (last .answer ∷ []))
     unfolding answers before-last

@@ -1,8 +1,8 @@
 -- A call by the round is its single steps or a refusal; it keeps a sound board sound, and a refused one alters nothing.
 -- Relies on Runs and Refusals; a sheet's line of rounds and the code's rounds rely on it.
-use Rattle.model.proofs.Kit.{_≡_, refl, sym, ap, _∙_, List, none, some, ℕ, length, arith}
-use Rattle.model.specs.Calls.{After, Refusal, RunAnswer, unlessRefused, stations, step, ranFrom}
-use Rattle.model.specs.Rounds.{RoundsAnswer, played, notPlayed, roundsRefusal, roundsSteps, decidedOn, playedTo}
+use Rattle.model.proofs.Kit.{_≡_, refl, ap, List, none, some, ℕ, length, arith}
+use Rattle.model.specs.Calls.{After, RunAnswer, unlessRefused, stations, step, ranFrom}
+use Rattle.model.specs.Rounds.{RoundsAnswer, played, notPlayed, roundsRefusal, roundsSteps, playedTo}
 use Rattle.model.specs.Rounds.{rounds}
 use Rattle.model.specs.Runs.{after}
 use Rattle.model.proofs.Calls.Refusals.{Board, call-case}

@@ -11,8 +11,8 @@ use Rattle.model.specs.Rounds as byRound
 use Rattle.model.specs.Rounds.{roundsRefusal, roundsSteps}
 use Rattle.model.specs.Forms.{Form, board, propose, steps, show, rounds, expand, Reading, reads, unread}
 use Rattle.model.specs.Grammar.{InRange}
-use Rattle.model.specs.Sheet.{Played, orRefused, proposedText, ranText, playedText, shownText, turnedDown, onBoard}
-use Rattle.model.specs.Sheet.{playForm, playReading}
+use Rattle.model.specs.Sheet.{Played, orRefused, proposedText, ranText, playedText, shownText, turnedDown}
+use Rattle.model.specs.Sheet.{onBoard, playForm, playReading}
 use Rattle.model.specs.AnyList.{Call, stepping, called, after, Allowed, AllAllowed}
 use Rattle.model.specs.SheetList.{formCalls, callsOf, Stays, NotMet}
 use Rattle.model.proofs.Basics.Tests.{cond-case}

@@ -79,7 +79,8 @@ pub round-regrouped : (i : ℕ) (is rest : List ℕ)
 unfolding writtenRound text textFrom
 round-regrouped i is rest = simp append-assoc
 
-pub round-read : (r : List ℕ) → Stations r → (rest : List ℕ) → Stops rest → roundIn (writtenRound r ++ rest) ≡ found r rest
+pub round-read : (r : List ℕ) → Stations r → (rest : List ℕ) → Stops rest
+    → roundIn (writtenRound r ++ rest) ≡ found r rest
 unfolding roundIn writtenRound text textFrom Each
 round-read [] h rest s = refl
 round-read (i ∷ is) h rest s =
@@ -132,8 +133,12 @@ round-stood l =
     always-if (Stood writtenRound Stations l) (eqb (byte l 0) 40) _
     (λ e. let bracket = in-front l 40 (lit< tt) (eqb-true (byte l 0) 40 e) in
     cond-case (Always (Stood writtenRound Stations l)) (eqb (byte (drop 1 l) 0) 41) _ _
-    (λ q. (bracket ∙ ap (λ (x : List ℕ). 40 ∷ x) (in-front (drop 1 l) 41 (lit< tt) (eqb-true (byte (drop 1 l) 0) 41 q)), tt))
-    (λ q. always-then (Stood decimal (λ i. i ≤ 99) (drop 1 l)) (Stood writtenRound Stations l) (numberIn 0 99 (drop 1 l)) _
+    (λ q. (
+      bracket ∙ ap (λ (x : List ℕ). 40 ∷ x) (in-front (drop 1 l) 41 (lit< tt) (eqb-true (byte (drop 1 l) 0) 41 q)),
+      tt,
+    ))
+    (λ q. always-then (Stood decimal (λ i. i ≤ 99) (drop 1 l)) (Stood writtenRound Stations l)
+    (numberIn 0 99 (drop 1 l)) _
     (station-stood (drop 1 l))
     (λ r t. always-then (ListStood decimal (λ i. i ≤ 99) (r .rest)) (Stood writtenRound Stations l)
     (listIn (numberIn 0 99) (length (r .rest) + 1) (r .rest)) _

@@ -138,7 +138,8 @@ module _ (b : List ℕ) (h : Board b) where
     where
       own : Always Other (roundsRefusal k rs b)
       own = unfold roundsRefusal unmet lastRefusal Always in
-          board-first _ (always-unless _ 18 _ (λ _. other 18 tt) (λ _. always-unless _ 19 none (λ _. other 19 tt) (λ _. tt)))
+          board-first _
+          (always-unless _ 18 _ (λ _. other 18 tt) (λ _. always-unless _ 19 none (λ _. other 19 tt) (λ _. tt)))
 
       counts : (r d : ℕ) → NotMet (playedText (byRound.played r d))
       counts r d = unfold playedText text textFrom in answer-prints (playedText (byRound.played r d)) (λ e. omega arith)

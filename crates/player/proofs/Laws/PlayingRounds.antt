@@ -1,7 +1,7 @@
 -- A line of rounds: what is printed, and what is left of the memory, at each return of its player.
--- Relies on a call on the board that was laid and on the play of a line's rounds; the proof of `line::play_rounds` relies
--- on it.
-use Rattle.model.proofs.Kit.{_≡_, refl, sym, ap, _∙_, List, _++_, ℕ, _<_, length, drop, take, w32, Fits, arith}
+-- Relies on a call on the board that was laid and on the play of a line's rounds; the proof of `line::play_rounds`
+-- relies on it.
+use Rattle.model.proofs.Kit.{_≡_, refl, sym, ap, _∙_, List, _++_, ℕ, length, drop, take, w32, Fits, arith}
 use Prim.Native.Nat.{min}
 use Rattle.model.specs.declared.RoundsVerdict.{RoundsVerdict}
 use Rattle.model.specs.declared.RoundsVerdict.the-variants as byRound
@@ -13,7 +13,7 @@ use Rattle.shown.specs.declared.line.Line.{Line}
 use Rattle.shown.specs.Puts.{Holds}
 use Rattle.shown.proofs.Bounds.{played-short}
 use Rattle.line_rounds.specs.LineRounds.{LineHas, PlaysLine}
-use Rattle.line_rounds.proofs.Laws.WholeLine.{Has, its, few}
+use Rattle.line_rounds.proofs.Laws.WholeLine.{its, few}
 use Rattle.player.specs.declared.line.Played.{Played}
 use Rattle.player.specs.Played.{TurnsDown, PlaysRounds}
 use Rattle.player.proofs.Laws.Playing.{five, on-part, on-turned}
@@ -25,7 +25,8 @@ module _ (line : List ℕ) (laid : ℕ) (m : List ℕ) where
 
   module _ (part : ℕ) (w : RoundsVerdict) (d : List ℕ) (plays : PlaysLine line (take part m) w d) where
     -- a line is too short for more rounds than a number of 32 bits tells
-    pub rounds-fit : (at count needs : ℕ) → LineHas line at count needs → (r s : ℕ) → w ≡ byRound.Played r s → Fits w32 r
+    pub rounds-fit : (at count needs : ℕ) → LineHas line at count needs → (r s : ℕ) → w ≡ byRound.Played r s
+        → Fits w32 r
     unfolding PlaysLine roundsTold
     rounds-fit at count needs has r s e =
         let there = its line at count needs has in
@@ -51,4 +52,5 @@ module _ (line : List ℕ) (laid : ℕ) (m : List ℕ) where
       unfolding PlaysRounds PlaysLine playForm roundsTold
       rounds-play s t l e h = λ k rs q.
           on-part laid m playedText (rounds k rs) part (roundsTold w) d f lent (plays k rs q .0) (plays k rs q .1)
-          (playedText (played s t)) _ (ap (λ (a : RoundsVerdict). playedText (roundsTold a)) e) h refl (played-short s t)
+          (playedText (played s t)) _ (ap (λ (a : RoundsVerdict). playedText (roundsTold a)) e) h refl
+          (played-short s t)

@@ -39,7 +39,8 @@ module _ (laid : ℕ) (m line : List ℕ) (f : LineForm) (read : f ≡ lineForm 
   unfolding playReading PlaysSteps
   line-steps at c e h = let s = tells (lines.Steps at c) e in as-read _ (s .1) (h (s .0) (s .1))
 
-  pub line-rounds : (at c s : ℕ) → f ≡ lines.Rounds at c s → PlaysRounds line laid m r d → Plays (playLine laid m line) r d
+  pub line-rounds : (at c s : ℕ) → f ≡ lines.Rounds at c s → PlaysRounds line laid m r d
+      → Plays (playLine laid m line) r d
   unfolding playReading PlaysRounds
   line-rounds at c s e h = let t = tells (lines.Rounds at c s) e in as-read _ (t .2) (h (t .0) (t .1) (t .2))
 

@@ -1,7 +1,7 @@
 -- Steps on a sound board one after another: those of one station, and those of all stations in turn.
 -- Relies on the model's runs and refused steps and on runs put together; the proofs of one round rely on it.
 use Rattle.model.proofs.Kit.{_≡_, refl, sym, ap, subst, _∙_, Bool, true, false, cond, List, [], _∷_, _++_, none, ℕ}
-use Rattle.model.proofs.Kit.{zero, suc, _+_, _-_, _≤_, _<_, lit<, length, replicate, getD, add-one, arith}
+use Rattle.model.proofs.Kit.{suc, _+_, _-_, _≤_, _<_, lit<, length, replicate, getD, add-one, arith}
 use lib.ListN.{replicate-append-replicate}
 use Rattle.model.specs.declared.StepAnswer.{StepAnswer}
 use Rattle.model.specs.Listing.{accepted}

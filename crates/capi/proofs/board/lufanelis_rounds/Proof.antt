@@ -1,5 +1,5 @@
--- `board::lufanelis_rounds` meets its contract: a list that is too long to tell of is not played, and else the call's own
--- promise, with its answer packed. Relies on the laws of rounds on a lent board.
+-- `board::lufanelis_rounds` meets its contract: a list that is too long to tell of is not played, and else the call's
+-- own promise, with its answer packed. Relies on the laws of rounds on a lent board.
 use Rattle.model.proofs.Kit.{needs, arith}
 use Rattle.capi.proofs.Laws.Rounds.{rounds-too-long, rounds-few, rounds-packed}
 use Rattle.capi.proofs.board.lufanelis_rounds.Statement.{statement}
