@@ -77,7 +77,8 @@ rows =
     -- 3; 19 for the second of two rounds, with nothing played of the first; 18 before 19
     ∷ sheet (
     "(board 3 2)" ∷ "(propose 1 3)" ∷ "(propose 2 7)" ∷ "(rounds 1 ())" ∷ "(show)" ∷ "(rounds 1 (2) (1 2))"
-    ∷ "(steps 1)" ∷ "(rounds 0 (4))" ∷ "(steps (times 3 1))" ∷ "(rounds 2 (1 3) ())" ∷ "(rounds 1 (1) () (3))" ∷ "(show)" ∷ []
+    ∷ "(steps 1)" ∷ "(rounds 0 (4))" ∷ "(steps (times 3 1))" ∷ "(rounds 2 (1 3) ())" ∷ "(rounds 1 (1) () (3))"
+    ∷ "(show)" ∷ []
     ) (
     "(laid 3 2)" ∷ "(proposed 1 3)" ∷ "(proposed 2 7)" ∷ "(played 1 0)"
     ∷ "(stations (1 going 0 3) (2 going 0 7) (3 idle))"

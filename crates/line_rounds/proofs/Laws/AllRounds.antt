@@ -15,7 +15,7 @@ use Rattle.model.proofs.Sheet.Lists.{Stations, ListStood, list-stops, regrouped
 use Rattle.lexer.proofs.Laws.Given.{found-one}
 use Rattle.lexer.proofs.Laws.Places.{first-byte, behind-first}
 use Rattle.rounds.specs.Rounds.{afterRound}
-use Rattle.rounds.proofs.Laws.Rounds.{RanRounds, no-rounds, one-round-more, rounds-sound, rounds-length, rounds-bytes}
+use Rattle.rounds.proofs.Laws.Rounds.{RanRounds, no-rounds, one-round-more, rounds-sound, rounds-bytes}
 use Rattle.line_rounds.specs.declared.RoundAt.{RoundAt}
 use Rattle.line_rounds.specs.LineRounds.{RoundStands, RoundRead, RoundIs, RoundsStand, RoundsPlay}
 
@@ -86,9 +86,6 @@ module _ (line : List ℕ) (at : ℕ) (b : List ℕ) where
 
     pub passed-sound : boardRefusal d none ≡ none
     passed-sound = rounds-sound b (passed .past) d (passed .ran)
-
-    pub passed-length : length d ≡ length b
-    passed-length = rounds-length b (passed .past) d (passed .ran)
 
     module _ (more : getD line place 0 ≡ 32) where
       -- the next round, and those behind it

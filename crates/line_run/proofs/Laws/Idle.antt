@@ -106,7 +106,8 @@ module _ (line b : List ℕ) (k inner : ℕ) (d : List ℕ) (total place i : ℕ
           ∙ ap (λ (n : ℕ). repeated n (expand (repeats .items))) whole)
           (sym stays)
           (subst (λ (n : ℕ). RunsOn
-          (repeated i (expand (repeats .items)) ++ repeated (k - i) (expand (repeats .items))) b (total + n) d) (sym z) (runs-then _ _ b d d total 0 (repeats .ran) left))
+          (repeated i (expand (repeats .items)) ++ repeated (k - i) (expand (repeats .items))) b (total + n) d) (sym z)
+          (runs-then _ _ b d d total 0 (repeats .ran) left))
         where
           whole : i + (k - i) ≡ k
           whole = omega arith

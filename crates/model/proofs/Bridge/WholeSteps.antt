@@ -5,8 +5,8 @@ use Rattle.model.proofs.Kit.{_++_, ℕ, zero, suc, _+_, _-_, _*_, _≤_
 use Rattle.model.proofs.Kit.{replicate, arith}
 use Rattle.model.specs.Figure.{Figure, figures}
 use Rattle.model.specs.Listing.{Turn, Register, Seen, nothing, Stage, writing, reading, Station, active, Array}
-use Rattle.model.specs.Listing.{inM, inA, inB, array, entry, Answer, wrote, read, Move, stay, see, move, placeArray}
-use Rattle.model.specs.Listing.{placeColumn}
+use Rattle.model.specs.Listing.{inM, inA, inB, array, entry, Answer, wrote, read, Move, stay, see, move}
+use Rattle.model.specs.Listing.{placeArray, placeColumn}
 use Rattle.model.specs.Collects.{SomeFilled, Ends, through, Collects}
 use Rattle.model.specs.Layout.{rowOf, registerOf, recordOf, stationOf}
 use Rattle.model.specs.Calls.{stations, islands, stationAt, step}
@@ -219,7 +219,8 @@ module _ (n K i : ℕ) (low : 1 ≤ i) (own : i - 1 < n) (v : Figure) (t : Turn)
     collect-ends =
         subst (λ (rs : List (Register Figure)). Ends figures K rs c t last) (sym met)
         (subst (λ (s : Stage Figure). Ends figures K
-        (row (R (array t c)) 0 (n - 1) ++ (R (array t c) (0 + (n - 1)) ∷ [])) c t (move figures n K s (R (array t c) (0 + (n - 1))))) (all-reads .stage)
+        (row (R (array t c)) 0 (n - 1) ++ (R (array t c) (0 + (n - 1)) ∷ [])) c t
+        (move figures n K s (R (array t c) (0 + (n - 1))))) (all-reads .stage)
         (figures-collect n K t c x (row (R (array t c)) 0 (n - 1)) (R (array t c) (0 + (n - 1)))
         (omega (arith, row-length (R (array t c)) 0 (n - 1))) some-filled .1))
 

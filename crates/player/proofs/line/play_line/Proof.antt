@@ -13,4 +13,5 @@ play-line-spec =
     (λ c κs. search needs) (λ c. search needs) (λ c κs. search needs) (λ c. search needs) (λ c κs. search line-counts)
     (λ c. search needs) (λ c κs. search needs) (λ c. search needs) (λ c κs. search line-has)
     (λ c. search line-turned) (λ c. search needs) (λ c. search line-board) (λ c. search needs)
-    (λ c. search (same-figure, line-propose, needs)) (λ c. search needs) (λ c. search line-steps) (λ c. search needs) (λ c. search line-show) (λ c. search needs) (λ c. search line-rounds))
+    (λ c. search (same-figure, line-propose, needs)) (λ c. search needs) (λ c. search line-steps)
+    (λ c. search needs) (λ c. search line-show) (λ c. search needs) (λ c. search line-rounds))
