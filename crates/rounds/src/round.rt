@@ -9,24 +9,7 @@ ghost use lib.ListN.{replicate};
 ghost use Rattle.model.specs.Calls.{boardRefusal, stepOn};
 ghost use Rattle.model.specs.Runs.{after};
 ghost use Rattle.rounds.specs.Rounds.{afterTurns, afterRound};
-use stepping::running::taken;
-use stepping::sound_step::step_on;
-
-// So many single steps of one station. A refused step leaves the board as it was, and so would every later one: they are
-// passed over, so that a station that is idle, decided or spent costs one step.
-fn steps_of(board: &mut [u8], station: u8, count: usize)
-    requires { ⌜ boardRefusal (now board) none ≡ none ⌝ }
-    ensures { λ _. ⌜ now (board .exit) ≡ after stepOn (now (board .entry)) (replicate count station) ⌝ }
-{
-    let mut i: usize = 0;
-    while i < count {
-        let answer = step_on(board, station);
-        if taken(answer) == 0 {
-            return;
-        }
-        i += 1;
-    }
-}
+use stepping::repeated::steps_of;
 
 // A station's part in a round.
 fn turn_of(board: &mut [u8], station: u8, halted: bool, steps: usize)

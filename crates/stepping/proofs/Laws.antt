@@ -7,3 +7,4 @@ pub mod Stepping
 pub mod Checking
 pub mod Running
 pub mod Joined
+pub mod Repeated

@@ -1,19 +1,21 @@
 -- What the inner functions of a step promise, for a record f that stands for a going station.
--- Relies on the model's calls; the contracts of the step's inner functions rely on it.
+-- Relies on the model's calls and on the place of a station; the contracts of the step's inner functions rely on it.
 use mathlib.Core.Path.{_≡_}
-use mathlib.Core.Bool.{cond}
+use mathlib.Core.Bool.{Bool, cond}
 use mathlib.Core.List.{List}
-use Prim.Native.Nat.{ℕ, _≤_, _<_}
-use lib.ListN.{length}
+use mathlib.Core.Option.{none}
+use Prim.Native.Nat.{ℕ, _+_, _≤_, _<_}
+use lib.ListN.{length, getD}
 use Rattle.model.specs.declared.Record.{Record}
 use Rattle.model.specs.declared.StepAnswer.{StepAnswer}
 use Rattle.model.specs.Bytes.{part}
 use Rattle.model.specs.Figure.{Figure}
 use Rattle.model.specs.Listing.{Stage, active, placeArray, placeColumn, accepted}
 use Rattle.model.specs.Layout.{boardLength, registerAt, recordAt, readRecord, layRecord, recordValue}
-use Rattle.model.specs.Calls.{access, stepOn}
+use Rattle.model.specs.Calls.{boardRefusal, access, stepOn}
 use Rattle.model.specs.Told.{told}
 use Rattle.model.specs.Runs.{taken, answers, after}
+use Rattle.soundness.specs.Placed.{On}
 
 -- the offset r of the one register that station index j touches next
 unfoldable pub Touches : (n j : ℕ) (f : Record) (r : ℕ) → Type 0
@@ -39,9 +41,20 @@ pub record Stands (n K j at : ℕ) (f : Record) (b : List ℕ) : Type 0 where
   pub read : f ≡ readRecord (part at 24 b)
   pub laid : part at 24 b ≡ layRecord f
 
+-- the station with index j has its record at `at`, on a sound board b whose head says n and K
+pub record Known (n K j at : ℕ) (b : List ℕ) : Type 0 where
+  pub sound : boardRefusal b none ≡ none
+  pub on : On (j + 1) b j at
+  pub stations : n ≡ getD b 0 0
+  pub islands : K ≡ getD b 1 0
+
 -- a step's answer r and bytes d, as the model's step on a sound board gives them
 unfoldable pub StepsOn : (i : ℕ) (b : List ℕ) (r : StepAnswer) (d : List ℕ) → Type 0
 StepsOn i b r d = (told r ≡ stepOn i b .answer) × (d ≡ stepOn i b .bytes)
+
+-- whether that step was taken, r, and its bytes d
+unfoldable pub TakesOn : (i : ℕ) (b : List ℕ) (r : Bool) (d : List ℕ) → Type 0
+TakesOn i b r d = (r ≡ accepted (stepOn i b .answer)) × (d ≡ stepOn i b .bytes)
 
 -- 1 for a step taken, 0 for a refused one
 unfoldable pub counts : StepAnswer → ℕ

@@ -1,12 +1,14 @@
 // One step of one station: the register it touches, the listing's move, and what is put back.
 // Relies on the codec and on the stepper of a lent record; the public step and the run rely on it.
-ghost use Prim.Native.Nat.{_≤_, _<_};
+ghost use Prim.Native.Nat.{_+_, _≤_, _<_};
+ghost use lib.ListN.{getD};
 ghost use Rattle.archipelago.specs.Advanced.{Ready};
-ghost use Rattle.stepping.specs.Stepped.{Touches, Accesses, OnSize, Stands};
+ghost use Rattle.stepping.specs.Stepped.{Touches, Accesses, OnSize, Stands, Known, StepsOn};
 use codec::places::register_offset;
 use codec::records::put_collected;
 use codec::records::put_phase;
 use codec::records::put_started;
+use codec::records::record_at;
 use codec::registers::put_register;
 use codec::registers::register_at;
 use model::Record;
@@ -48,7 +50,7 @@ fn touched(n: u8, k: u8, j: usize, station: Record) -> usize
 // An accepted step of the station with index j, whose record at `at` has been read. Only what the move changed is put back:
 // after a write the phase, in the middle of a collect what it has seen, and at its end, where the station is at position 0
 // again, all but the proposal. The other bytes of the record stand already.
-pub fn access(board: &mut [u8], n: u8, k: u8, j: usize, at: usize, station: Record) -> StepAnswer
+fn access(board: &mut [u8], n: u8, k: u8, j: usize, at: usize, station: Record) -> StepAnswer
     requires { ⌜ Ready n k station × OnSize n k j (now board) × Stands n k j at station (now board) ⌝ }
     ensures { λ r. ⌜ Accesses n k j station (now (board .entry)) r (now (board .exit)) ⌝ }
 {
@@ -65,4 +67,14 @@ pub fn access(board: &mut [u8], n: u8, k: u8, j: usize, at: usize, station: Reco
     }
     put_collected(board, at, moved.station);
     moved.answer
+}
+
+// One step of a station that goes on, by its place. The record is read here: two functions call this one, so that it is a
+// call, and a record handed over would go through memory.
+pub fn step_going(board: &mut [u8], n: u8, k: u8, j: usize, at: usize) -> StepAnswer
+    requires { ⌜ Known n k j at (now board) × (1 ≤ getD (now board) at 0) × (getD (now board) at 0 ≤ 6) ⌝ }
+    ensures { λ r. ⌜ StepsOn (j + 1) (now (board .entry)) r (now (board .exit)) ⌝ }
+{
+    let station = record_at(board, at);
+    access(board, n, k, j, at, station)
 }

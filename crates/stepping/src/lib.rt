@@ -2,6 +2,7 @@
 // `step` and `run` are public calls; the run of a line's items shares the step of a sound board, which has a `requires`.
 // Relies on the test of a board, the codec and the stepper of a lent record; the public calls and the run of items rely on it.
 mod accessing;
+pub mod repeated;
 pub mod running;
 pub mod single;
 pub mod sound_step;

@@ -5,8 +5,7 @@ ghost use mathlib.Core.Path.{_≡_};
 ghost use mathlib.Core.Option.{none};
 ghost use Rattle.model.specs.Calls.{boardRefusal};
 ghost use Rattle.stepping.specs.Stepped.{StepsOn};
-use crate::accessing::access;
-use codec::records::record_at;
+use crate::accessing::step_going;
 use model::StepAnswer;
 use model::phase::DECIDED;
 use model::phase::IDLE;
@@ -22,18 +21,18 @@ pub fn step_on(board: &mut [u8], station: u8) -> StepAnswer
     let Place::At { index, at } = station_place(board, station) else {
         return StepAnswer::Refused { number: NO_STATION };
     };
-    let own = record_at(board, at);
-    if own.phase == IDLE {
+    let phase = board[at];
+    if phase == IDLE {
         return StepAnswer::Refused { number: 14 };
     }
     // One test for a station that goes on, which nearly every call is for.
-    if READ_B < own.phase {
-        if own.phase == DECIDED {
+    if READ_B < phase {
+        if phase == DECIDED {
             return StepAnswer::Refused { number: 15 };
         }
         return StepAnswer::Refused { number: 16 };
     }
     let n = board[0];
     let k = board[1];
-    access(board, n, k, index, at, own)
+    step_going(board, n, k, index, at)
 }

@@ -15,10 +15,10 @@ use Rattle.model.proofs.Calls.Runs.{after-on}
 use Rattle.model.proofs.Calls.Rounds as model
 use Rattle.halts.specs.Needs as halts
 use Rattle.soundness.proofs.Laws.Placing.{n-high}
+use Rattle.stepping.proofs.Laws.Repeated.{Ran, ran-none, ran-then}
 use Rattle.rounds.specs.Asked.{Refuses}
 use Rattle.rounds.specs.Suspended.{suspended, Suspends}
 use Rattle.rounds.specs.Rounds.{afterRound, afterRounds}
-use Rattle.rounds.proofs.Laws.Turns.{Ran, ran-none, ran-then}
 
 -- ---- one round by the set of its suspended stations
 

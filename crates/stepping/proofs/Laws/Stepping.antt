@@ -1,32 +1,33 @@
 -- A step on a sound board: each refusal, and the accepted step.
--- Relies on the place of a station and on the model's soundness; the proof of `step_on` relies on it.
-use Rattle.model.proofs.Kit.{_≡_, refl, sym, ap, subst, _∙_, List, [], _∷_, none, some, ℕ, suc, _-_, _≤_, _<_, T, getD}
-use Rattle.model.proofs.Kit.{w8, Fits, arith}
+-- Relies on the place of a station and on the model's soundness; the proofs of `step_on` and `step_going` rely on it.
+use Rattle.model.proofs.Kit.{_≡_, refl, sym, ap, subst, _∙_, true, List, [], _∷_, none, some, ℕ, suc, _-_, _≤_, _<_, T, getD}
+use Rattle.model.proofs.Kit.{_+_, lit<, length, add-zero, w8, Fits, arith}
 use Rattle.model.specs.declared.Record.{Record}
 use Rattle.model.specs.declared.StepAnswer.{StepAnswer}
 use Rattle.model.specs.declared.StepAnswer.the-variants.{Refused}
 use Rattle.model.specs.Bytes.{byte, part}
 use Rattle.model.specs.Figure.{Figure}
-use Rattle.model.specs.Listing.{Station, idle, active, has-decided, is-spent, Answer, refused}
+use Rattle.model.specs.Listing.{Station, idle, active, has-decided, is-spent, Answer, refused, accepted}
 use Rattle.model.specs.Layout.{readRecord, layRecord, ofPhase, recordValue, recordOf}
 use Rattle.model.specs.Sound.{fieldsSound, recordSound}
 use Rattle.model.specs.Calls.{After, Refusal, stations, islands, boardRefusal, stationRefusal, stationAt, unlessRefused}
-use Rattle.model.specs.Calls.{notGoing, stepped, stepOn}
+use Rattle.model.specs.Calls.{notGoing, access, stepped, stepOn}
 use Rattle.model.specs.Told.{told}
 use Rattle.model.proofs.Basics.Tests.{and-l, and-r}
 use Rattle.model.proofs.Basics.Numbers.{Bytes}
-use Rattle.model.proofs.Basics.Splices.{length-part}
+use Rattle.model.proofs.Basics.Splices.{length-part, byte-part}
 use Rattle.model.proofs.Basics.Parts.{part-Bytes}
 use Rattle.model.proofs.Board.Canon.{bytes-record}
 use Rattle.model.proofs.Calls.Refusals.{board-of, OnBoard, station-passes}
 use Rattle.model.proofs.Calls.Accepted.{stepOn-access}
+use Rattle.model.proofs.Calls.Refused.{access-accepts}
 use Rattle.soundness.specs.declared.place.Place.{Place}
 use Rattle.soundness.specs.declared.place.Place.the-variants as places
 use Rattle.soundness.specs.Placed.{On, Placed}
 use Rattle.soundness.proofs.Laws.Placing.{at-place, not-placed, own-value}
 use Rattle.archipelago.specs.Advanced.{Ready}
-use Rattle.stepping.specs.Stepped.{Accesses, OnSize, Stands, StepsOn}
-use Rattle.stepping.proofs.Laws.Accessing.{standing}
+use Rattle.stepping.specs.Stepped.{Accesses, OnSize, Stands, Known, StepsOn}
+use Rattle.stepping.proofs.Laws.Accessing.{Standing, standing}
 use Rattle.stepping.proofs.Laws.Ready.{ready}
 
 -- the contents of a lent slice of bytes are bytes
@@ -50,10 +51,13 @@ turned-down i b k e = (
 pub no-station : (i : ℕ) (b : List ℕ) (p : Place) → p ≡ places.Nowhere → Placed i b p → StepsOn i b (Refused 12) b
 no-station i b p e h = turned-down i b 12 (not-placed i b p e h _)
 
--- ---- the station's own record f, as the code read it at its place
+-- byte 0 of a record is its phase
+phase-byte : (b : List ℕ) (at : ℕ) (f : Record) → f ≡ readRecord (part at 24 b) → f .phase ≡ getD b at 0
+unfolding readRecord
+phase-byte b at f e =
+    ap (λ (g : Record). g .phase) e ∙ byte-part at 24 b 0 (lit< tt) ∙ ap (λ (k : ℕ). getD b k 0) (add-zero at)
 
-module _ (i : ℕ) (b : List ℕ) (p : Place) (j at : ℕ) (is : p ≡ places.At j at) (h : Placed i b p)
-    (f : Record) (e : f ≡ readRecord (part at 24 b)) where
+module _ (i : ℕ) (b : List ℕ) (p : Place) (j at : ℕ) (is : p ≡ places.At j at) (h : Placed i b p) where
   on : On i b j at
   on = at-place i b p j at is h
 
@@ -61,69 +65,118 @@ module _ (i : ℕ) (b : List ℕ) (p : Place) (j at : ℕ) (is : p ≡ places.At
   unfolding stations
   on-board = record { low = on .low; high = on .high }
 
-  stands : stationAt i b ≡ recordValue f
-  stands = own-value i b j at on f e
+  pub phase-inside : at < length b
+  phase-inside = omega (arith, on .inside)
 
-  by-phase : (z : Station Figure) (k : ℕ) → recordValue f ≡ z → notGoing z ≡ some k → StepsOn i b (Refused k) b
-  by-phase z k h g = turned-down i b k (station-passes i b on-board _ ∙ ap notGoing (stands ∙ h) ∙ g)
+  abbrev own : Record
+  own = readRecord (part at 24 b)
 
-  pub on-size : OnSize (getD b 0 0) (getD b 1 0) j b
-  on-size = record { stations = on .stations; islands = on .islands; own = on .own; len = on .len }
+  by-phase : (k : ℕ) (z : Station Figure) (m : ℕ) → getD b at 0 ≡ k → ofPhase k own ≡ z → notGoing z ≡ some m
+      → StepsOn i b (Refused m) b
+  unfolding recordValue
+  by-phase k z m e q g =
+      turned-down i b m (station-passes i b on-board _
+      ∙ ap notGoing (own-value i b j at on own refl
+      ∙ ap (λ (k : ℕ). ofPhase k own) (phase-byte b at own refl ∙ e) ∙ q) ∙ g)
 
-  pub fourteen : f .phase ≡ 0 → StepsOn i b (Refused 14) b
-  unfolding recordValue ofPhase notGoing
-  fourteen p = by-phase idle 14 (ap (λ (k : ℕ). ofPhase k f) p) refl
+  pub fourteen : getD b at 0 ≡ 0 → StepsOn i b (Refused 14) b
+  unfolding ofPhase notGoing
+  fourteen e = by-phase 0 idle 14 e refl refl
 
-  pub fifteen : f .phase ≡ 7 → StepsOn i b (Refused 15) b
-  unfolding recordValue ofPhase notGoing
-  fifteen p =
-      by-phase (active (f .proposal) (has-decided (f .island) (f .carried))) 15 (ap (λ (k : ℕ). ofPhase k f) p) refl
+  pub fifteen : getD b at 0 ≡ 7 → StepsOn i b (Refused 15) b
+  unfolding ofPhase notGoing
+  fifteen e = by-phase 7 (active (own .proposal) (has-decided (own .island) (own .carried))) 15 e refl refl
 
-  pub sixteen : 6 < f .phase → (f .phase ≡ 7 → ⊥) → StepsOn i b (Refused 16) b
-  unfolding recordValue ofPhase notGoing
-  sixteen p z =
-      let q : f .phase ≡ suc (suc (suc (suc (suc (suc (suc (suc (f .phase - 8)))))))) = omega arith in
-      by-phase (active (f .proposal) (is-spent (f .island) (f .carried))) 16 (ap (λ (k : ℕ). ofPhase k f) q) refl
+  pub sixteen : 6 < getD b at 0 → (getD b at 0 ≡ 7 → ⊥) → StepsOn i b (Refused 16) b
+  unfolding ofPhase notGoing
+  sixteen l z =
+      let q : getD b at 0 ≡ suc (suc (suc (suc (suc (suc (suc (suc (getD b at 0 - 8)))))))) = omega arith in
+      by-phase _ (active (own .proposal) (is-spent (own .island) (own .carried))) 16 q refl refl
 
-  -- ---- a going station
+  number : j + 1 ≡ i
+  number = omega (arith, on .low, on .index)
 
-  module _ (sound : boardRefusal b none ≡ none) (known : (i : ℕ) → Fits w8 (getD b i 0)) (z : f .phase ≡ 0 → ⊥)
-      (l : f .phase ≤ 6) where
-    bytes : Bytes (part at 24 b)
-    bytes = part-Bytes at 24 b (all-bytes b (λ i. known i .fits))
+  pub known-at : boardRefusal b none ≡ none → Known (getD b 0 0) (getD b 1 0) j at b
+  known-at s = record {
+    sound = s;
+    on = subst (λ (k : ℕ). On k b j at) (sym number) on;
+    stations = refl;
+    islands = refl;
+  }
 
+  pub by-number : (r : StepAnswer) (d : List ℕ) → StepsOn (j + 1) b r d → StepsOn i b r d
+  by-number r d = subst (λ (k : ℕ). StepsOn k b r d) number
+
+-- ---- a going station, whose record f the code read at its place
+
+module _ (n K j at : ℕ) (b : List ℕ) (k : Known n K j at b) where
+  -- what is said of the size in the head is said of the size that was read
+  as-read : (P : ℕ → ℕ → Type 0) → P (getD b 0 0) (getD b 1 0) → P n K
+  as-read P x = subst (P n) (sym (k .islands)) (subst (λ (m : ℕ). P m (getD b 1 0)) (sym (k .stations)) x)
+
+  pub going-inside : at + 24 ≤ length b
+  going-inside = k .on .inside
+
+  pub going-size : OnSize n K j b
+  going-size =
+      as-read (λ n K. OnSize n K j b)
+      (record { stations = k .on .stations; islands = k .on .islands; own = k .on .own; len = k .on .len })
+
+  module _ (f : Record) (e : f ≡ readRecord (part at 24 b)) (low : 1 ≤ getD b at 0) (high : getD b at 0 ≤ 6) where
     fields : T (fieldsSound (getD b 0 0) (getD b 1 0) (byte (part at 24 b) 0) (part at 24 b))
     unfolding stations islands recordSound recordOf
     fields =
-        let r = board-of b none sound .0 .sound-board .records j (on .own) in
+        let r = board-of b none (k .sound) .0 .sound-board .records j (k .on .own) in
         subst (λ (x : ℕ). T (fieldsSound (getD b 0 0) (getD b 1 0) (byte (part x 24 b) 0) (part x 24 b)))
-        (sym (on .place))
+        (sym (k .on .place))
         (search (and-l, and-r))
 
-    pub is-ready : Ready (getD b 0 0) (getD b 1 0) f
+    ready-now : Ready (getD b 0 0) (getD b 1 0) f
     unfolding readRecord
-    is-ready =
+    ready-now =
+        let q = phase-byte b at f e in
         subst (Ready (getD b 0 0) (getD b 1 0)) (sym e)
-        (ready (getD b 0 0) (getD b 1 0) (part at 24 b) fields (length-part at 24 b (on .inside))
-        (omega (arith, ap (λ (g : Record). g .phase) e)) (omega (arith, ap (λ (g : Record). g .phase) e)))
+        (ready (getD b 0 0) (getD b 1 0) (part at 24 b) fields (length-part at 24 b (k .on .inside))
+        (omega (arith, q, ap (λ (g : Record). g .phase) e)) (omega (arith, q, ap (λ (g : Record). g .phase) e)))
+
+    pub going-ready : Ready n K f
+    going-ready = as-read (λ n K. Ready n K f) ready-now
 
     -- the bytes that stand there are those of the record: encoding after decoding is the identity on a sound one
-    pub own-record : Stands (getD b 0 0) (getD b 1 0) j at f b
-    own-record = record {
-      place = on .place;
-      read = e;
-      laid =
-          sym (bytes-record (getD b 0 0) (getD b 1 0) _ (length-part at 24 b (on .inside)) bytes fields)
-          ∙ ap layRecord (sym e);
-    }
+    pub going-stands : ((i : ℕ) → Fits w8 (getD b i 0)) → Stands n K j at f b
+    going-stands known =
+        as-read (λ n K. Stands n K j at f b)
+        (record {
+          place = k .on .place;
+          read = e;
+          laid =
+              sym (bytes-record (getD b 0 0) (getD b 1 0) _ (length-part at 24 b (k .on .inside))
+              (part-Bytes at 24 b (all-bytes b (λ i. known i .fits))) fields)
+              ∙ ap layRecord (sym e);
+        })
 
-    pub accepted : (r : StepAnswer) (d : List ℕ) → Accesses (getD b 0 0) (getD b 1 0) j f b r d → StepsOn i b r d
-    unfolding Accesses StepsOn stations islands
-    accepted r d a =
-        let s = standing (getD b 0 0) (getD b 1 0) j f is-ready (on .own) in
-        let q = stepOn-access i b on-board (f .proposal) (s .stage) (stands ∙ s .stands) (s .goes) in
-        let here = subst (λ (k : ℕ). Accesses (getD b 0 0) (getD b 1 0) k f b r d) (on .index) a in
-        let p = here (s .stage) (s .stands) in (
-          p .0 ∙ ap (λ (x : After (Answer Figure)). x .answer) (sym q),
-          p .1 ∙ ap (λ (x : After (Answer Figure)). x .bytes) (sym q),
+    -- the stage that the record stands for
+    here : Standing (getD b 0 0) (getD b 1 0) j f
+    here = standing (getD b 0 0) (getD b 1 0) j f ready-now (k .on .own)
+
+    accesses : stepOn (j + 1) b ≡ access (getD b 0 0) (getD b 1 0) (j + 1 - 1) (f .proposal) (here .stage) b
+    unfolding stations islands
+    accesses =
+        stepOn-access (j + 1) b (record { low = k .on .low; high = k .on .high }) (f .proposal) (here .stage)
+        (own-value (j + 1) b j at (k .on) f e ∙ here .stands) (here .goes)
+
+    pub goes : (r : StepAnswer) (d : List ℕ) → Accesses n K j f b r d → StepsOn (j + 1) b r d
+    unfolding Accesses StepsOn
+    goes r d a =
+        let s = subst (λ (m : ℕ). Accesses m (getD b 1 0) j f b r d) (k .stations)
+        (subst (λ (m : ℕ). Accesses n m j f b r d) (k .islands) a) in
+        let p = subst (λ (m : ℕ). Accesses (getD b 0 0) (getD b 1 0) m f b r d) (k .on .index) s (here .stage)
+        (here .stands) in (
+          p .0 ∙ ap (λ (x : After (Answer Figure)). x .answer) (sym accesses),
+          p .1 ∙ ap (λ (x : After (Answer Figure)). x .bytes) (sym accesses),
         )
+
+    pub is-taken : accepted (stepOn (j + 1) b .answer) ≡ true
+    is-taken =
+        ap (λ (x : After (Answer Figure)). accepted (x .answer)) accesses
+        ∙ access-accepts (getD b 0 0) (getD b 1 0) (j + 1 - 1) (f .proposal) (here .stage) b (here .goes)

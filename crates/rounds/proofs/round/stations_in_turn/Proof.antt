@@ -2,8 +2,9 @@
 use Rattle.model.proofs.Kit.{_-_, _≤_, needs, arith}
 use Rattle.model.specs.Rounds.{inTurn}
 use Rattle.soundness.proofs.Laws.Placing.{head-long, n-high}
+use Rattle.stepping.proofs.Laws.Repeated.{Ran, ran-sound}
 use Rattle.rounds.specs.Suspended.{suspended}
-use Rattle.rounds.proofs.Laws.Turns.{Ran, ran-sound, turns-begun, one-turn-more, turns-ended}
+use Rattle.rounds.proofs.Laws.Turns.{turns-begun, one-turn-more, turns-ended}
 use Rattle.rounds.proofs.round.stations_in_turn.Statement.{statement}
 use Rattle.rounds.proofs.round.stations_in_turn.Tie as tie
 

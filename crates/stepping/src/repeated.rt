@@ -1,0 +1,49 @@
+// So many single steps of one station on a board that is known to be sound. Its place is found once: steps do not move it.
+// Relies on the place of a station and on the access; a round relies on it.
+ghost use mathlib.Core.Path.{_≡_};
+ghost use mathlib.Core.Option.{none};
+ghost use Prim.Native.Nat.{_+_};
+ghost use lib.ListN.{replicate};
+ghost use Rattle.model.specs.Calls.{boardRefusal, stepOn};
+ghost use Rattle.model.specs.Runs.{after};
+ghost use Rattle.stepping.specs.Stepped.{Known, TakesOn};
+use crate::accessing::step_going;
+use model::phase::IDLE;
+use model::phase::READ_B;
+use soundness::place::Place;
+use soundness::place::station_place;
+
+// One step of the station whose record stands at `at`, and whether it took it.
+fn step_placed(board: &mut [u8], n: u8, k: u8, index: usize, at: usize) -> bool
+    requires { ⌜ Known n k index at (now board) ⌝ }
+    ensures { λ r. ⌜ TakesOn (index + 1) (now (board .entry)) r (now (board .exit)) ⌝ }
+{
+    let phase = board[at];
+    if phase == IDLE {
+        return false;
+    }
+    if READ_B < phase {
+        return false;
+    }
+    step_going(board, n, k, index, at);
+    true
+}
+
+// A station that is idle, decided or spent stays so, and the board with it: the steps that are left are passed over.
+pub fn steps_of(board: &mut [u8], station: u8, count: usize)
+    requires { ⌜ boardRefusal (now board) none ≡ none ⌝ }
+    ensures { λ _. ⌜ now (board .exit) ≡ after stepOn (now (board .entry)) (replicate count station) ⌝ }
+{
+    let Place::At { index, at } = station_place(board, station) else {
+        return;
+    };
+    let n = board[0];
+    let k = board[1];
+    let mut i: usize = 0;
+    while i < count {
+        if !step_placed(board, n, k, index, at) {
+            return;
+        }
+        i += 1;
+    }
+}
