@@ -1,6 +1,6 @@
 // One round on a board that is known to be sound: each station that the round does not suspend takes a whole step, a write
-// and its collect, in station order. Its cost does not depend on the board's size.
-// Relies on the step of a sound board; the rounds of a lent list and those of a sheet's line rely on it.
+// and its collect, in station order. Its cost grows with the stations, not with the islands.
+// Relies on the steps of one station; the rounds of a lent list and those of a sheet's line rely on it.
 ghost use mathlib.Core.Path.{_≡_};
 ghost use mathlib.Core.Bool.{cond};
 ghost use mathlib.Core.List.{[]};

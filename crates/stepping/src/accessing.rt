@@ -1,5 +1,5 @@
 // One step of one station: the register it touches, the listing's move, and what is put back.
-// Relies on the codec and on the stepper of a lent record; the public step and the run rely on it.
+// Relies on the codec and on the stepper of a lent record; the public step, the run and the round rely on it.
 ghost use Prim.Native.Nat.{_+_, _≤_, _<_};
 ghost use lib.ListN.{getD};
 ghost use Rattle.archipelago.specs.Advanced.{Ready};
@@ -47,9 +47,9 @@ fn touched(n: u8, k: u8, j: usize, station: Record) -> usize
     register_offset(stations, 2 + 2 * island, next)
 }
 
-// An accepted step of the station with index j, whose record at `at` has been read. Only what the move changed is put back:
-// after a write the phase, in the middle of a collect what it has seen, and at its end, where the station is at position 0
-// again, all but the proposal. The other bytes of the record stand already.
+// An accepted step of the station with index j, whose record at `at` has been read. Only what the move changed is put
+// back: after a write the phase, in the middle of a collect what it has seen, and at its end, where the station is at
+// position 0 again, all but the proposal. The other bytes of the record stand already.
 fn access(board: &mut [u8], n: u8, k: u8, j: usize, at: usize, station: Record) -> StepAnswer
     requires { ⌜ Ready n k station × OnSize n k j (now board) × Stands n k j at station (now board) ⌝ }
     ensures { λ r. ⌜ Accesses n k j station (now (board .entry)) r (now (board .exit)) ⌝ }
@@ -69,7 +69,7 @@ fn access(board: &mut [u8], n: u8, k: u8, j: usize, at: usize, station: Record) 
     moved.answer
 }
 
-// One step of a station that goes on, by its place. The record is read here: two functions call this one, so that it is a
+// One step of a station that goes on, by its place. The record is read here: two functions call this one, so it stays a
 // call, and a record handed over would go through memory.
 pub fn step_going(board: &mut [u8], n: u8, k: u8, j: usize, at: usize) -> StepAnswer
     requires { ⌜ Known n k j at (now board) × (1 ≤ getD (now board) at 0) × (getD (now board) at 0 ≤ 6) ⌝ }

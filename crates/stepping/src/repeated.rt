@@ -1,4 +1,5 @@
-// So many single steps of one station on a board that is known to be sound. Its place is found once: steps do not move it.
+// So many single steps of one station on a board that is known to be sound. Its place is found once, as steps do not
+// move it.
 // Relies on the place of a station and on the access; a round relies on it.
 ghost use mathlib.Core.Path.{_≡_};
 ghost use mathlib.Core.Option.{none};

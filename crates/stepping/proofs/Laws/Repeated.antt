@@ -1,8 +1,8 @@
 -- Steps on a sound board one after another: the board that they leave, and those of one station, whose place stays.
--- Relies on Stepping, on runs put together and on the model's refused steps; the proof of `repeated::steps_of` relies on
--- it, and so do those of rounds.
-use Rattle.model.proofs.Kit.{_≡_, refl, sym, ap, subst, _∙_, Bool, true, false, not, List, [], _∷_, _++_, none, ℕ, zero, suc, _+_}
-use Rattle.model.proofs.Kit.{_-_, _≤_, _<_, T, lit<, length, replicate, getD, arith}
+-- Relies on Stepping, on runs put together and on the model's refused steps; the proof of `repeated::steps_of` relies
+-- on it, and so do those of rounds.
+use Rattle.model.proofs.Kit.{_≡_, refl, sym, ap, subst, _∙_, Bool, true, false, not, List, [], _∷_, _++_, none, ℕ}
+use Rattle.model.proofs.Kit.{zero, suc, _+_, _-_, _≤_, _<_, T, lit<, length, replicate, getD, arith}
 use lib.ListN.{replicate-append-replicate}
 use Rattle.model.specs.declared.StepAnswer.{StepAnswer}
 use Rattle.model.specs.declared.StepAnswer.the-variants.{Refused}
