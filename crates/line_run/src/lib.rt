@@ -11,8 +11,7 @@ use lexer::known::known_number;
 use model::RunVerdict;
 use model::Verdict;
 use soundness::board::check_board;
-use stepping::running::taken;
-use stepping::sound_step::step_on;
+use stepping::repeated::step_counted;
 
 // The steps taken, and the place after the items.
 pub struct PartRun {
@@ -39,9 +38,9 @@ fn run_item(board: &mut [u8], line: &[u8], at: usize) -> PartRun
 {
     if line[at] != b'(' {
         let station = known_number(line, at);
-        let answer = step_on(board, station.value as u8);
+        let taken = step_counted(board, station.value as u8);
         return PartRun {
-            taken: taken(answer),
+            taken,
             next: station.next,
         };
     }

@@ -1,7 +1,7 @@
 -- What the inner functions of a step promise, for a record f that stands for a going station.
 -- Relies on the model's calls and on the place of a station; the contracts of the step's inner functions rely on it.
 use mathlib.Core.Path.{_≡_}
-use mathlib.Core.Bool.{Bool, cond}
+use mathlib.Core.Bool.{Bool}
 use mathlib.Core.List.{List}
 use mathlib.Core.Option.{none}
 use Prim.Native.Nat.{ℕ, _+_, _≤_, _<_}
@@ -55,10 +55,6 @@ StepsOn i b r d = (told r ≡ stepOn i b .answer) × (d ≡ stepOn i b .bytes)
 -- whether that step was taken, r, and its bytes d
 unfoldable pub TakesOn : (i : ℕ) (b : List ℕ) (r : Bool) (d : List ℕ) → Type 0
 TakesOn i b r d = (r ≡ accepted (stepOn i b .answer)) × (d ≡ stepOn i b .bytes)
-
--- 1 for a step taken, 0 for a refused one
-unfoldable pub counts : StepAnswer → ℕ
-counts a = cond (accepted (told a)) 1 0
 
 -- the steps r taken by the stations `is` one after another on a sound board b, and the bytes d afterwards
 unfoldable pub RunsOn : (is b : List ℕ) (r : ℕ) (d : List ℕ) → Type 0

@@ -1,5 +1,5 @@
 // One step of one station: the register it touches, the listing's move, and what is put back.
-// Relies on the codec and on the stepper of a lent record; the public step, the run and the round rely on it.
+// Relies on the codec and on the stepper of a lent record; the steps of a sound board rely on it.
 ghost use Prim.Native.Nat.{_+_, _≤_, _<_};
 ghost use lib.ListN.{getD};
 ghost use Rattle.archipelago.specs.Advanced.{Ready};
@@ -69,8 +69,8 @@ fn access(board: &mut [u8], n: u8, k: u8, j: usize, at: usize, station: Record) 
     moved.answer
 }
 
-// One step of a station that goes on, by its place. The record is read here: two functions call this one, so it stays a
-// call, and a record handed over would go through memory.
+// One step of a station that goes on, by its place. The record is read here: several functions call this one, so that it
+// stays a call, and a record handed over would go through memory.
 pub fn step_going(board: &mut [u8], n: u8, k: u8, j: usize, at: usize) -> StepAnswer
     requires { ⌜ Known n k j at (now board) × (1 ≤ getD (now board) at 0) × (getD (now board) at 0 ≤ 6) ⌝ }
     ensures { λ r. ⌜ StepsOn (j + 1) (now (board .entry)) r (now (board .exit)) ⌝ }

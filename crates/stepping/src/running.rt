@@ -1,27 +1,16 @@
 // A run over a lent list of station numbers: soundness is tested once, and each step then costs the same.
-// Relies on the test of a board and on the step of a sound one; it is a public call.
+// Relies on the test of a board and on the counted step of a sound one; it is a public call.
 ghost use mathlib.Core.Path.{_≡_};
 ghost use mathlib.Core.Option.{none};
 ghost use Prim.Native.Nat.{_≤_};
 ghost use lib.ListN.{length};
 ghost use Rattle.model.specs.Calls.{boardRefusal, run};
 ghost use Rattle.model.specs.Told.{runTold};
-ghost use Rattle.stepping.specs.Stepped.{RunsOn, counts};
-use crate::sound_step::step_on;
+ghost use Rattle.stepping.specs.Stepped.{RunsOn};
+use crate::repeated::step_counted;
 use model::RunVerdict;
-use model::StepAnswer;
 use model::Verdict;
 use soundness::board::check_board;
-
-// Whether a step was taken: 1, or 0 for a refused one.
-pub fn taken(answer: StepAnswer) -> u32
-    ensures { λ r. ⌜ r ≡ counts answer ⌝ }
-{
-    if let StepAnswer::Refused { number: _ } = answer {
-        return 0;
-    }
-    1
-}
 
 // The steps taken by the stations of the list, one after another, on a board that is known to be sound.
 fn run_on(board: &mut [u8], stations: &[u8]) -> u32
@@ -31,8 +20,7 @@ fn run_on(board: &mut [u8], stations: &[u8]) -> u32
     let mut count: u32 = 0;
     let mut i = 0;
     while i < stations.len() {
-        let answer = step_on(board, stations[i]);
-        count += taken(answer);
+        count += step_counted(board, stations[i]);
         i += 1;
     }
     count

@@ -1,6 +1,6 @@
 // A step on a board that is known to be sound: refusals 12, 14, 15 and 16, then one access. Its cost is the same whatever
 // the size of the board.
-// Relies on the place of a station and on the access; the public step and the run rely on it.
+// Relies on the place of a station and on the step of a going one; the public step relies on it.
 ghost use mathlib.Core.Path.{_≡_};
 ghost use mathlib.Core.Option.{none};
 ghost use Rattle.model.specs.Calls.{boardRefusal};

@@ -18,8 +18,7 @@ use Rattle.line_run.proofs.+run_item+run_items.Lts-run_item as run-item
 use Rattle.line_run.proofs.run_items.Reads as run-items
 use Rattle.line_run.proofs.run_items.Kinds as run-items-kinds
 use Rattle.line_run.proofs.+run_item+run_items.Lts-run_items as run-items-lts
-use Rattle.stepping.proofs.running.taken.Reads as taken-reads
-use Rattle.stepping.proofs.sound_step.step_on.Reads as step-on-reads
+use Rattle.stepping.proofs.repeated.step_counted.Reads as step-counted-reads
 use Rattle.lexer.proofs.known.known_number.Reads as known-number-reads
 use Rattle.line_run.proofs.repeat_after.Reads as repeat-after-reads
 use Rattle.line_run.proofs.+run_item+run_items.{statement}
@@ -54,10 +53,8 @@ abbrev run-item-claims : ℕ → run-item-lts.Claims
 run-item-claims t = (
   known-number-reads.Asked,
   known-number-reads.Learnt,
-  step-on-reads.Asked,
-  step-on-reads.Learnt,
-  taken-reads.Asked,
-  taken-reads.Learnt,
+  step-counted-reads.Asked,
+  step-counted-reads.Learnt,
   run-items-below t,
   run-items.Post,
   repeat-after-reads.Asked,
@@ -83,7 +80,6 @@ pub +run-item+run-items-spec : {M : Type 1} → statement M
     (λ c. search item-inside)
     (λ c κs. search station-stands)
     (λ c. search station-fits)
-    (λ c κs. search needs)
     (λ c κs. search needs)
     (λ c. search needs)
     (λ c. search one-step)

@@ -1,11 +1,10 @@
 -- Items run as they stand in a line: what has been run of an item, and of a list of items, at each place.
 -- Relies on Fuel, the laws of items and of a known number, and runs put together of runs; the proof of `run_item` and
 -- `run_items` relies on it.
-use Rattle.model.proofs.Kit.{_≡_, refl, sym, ap, subst, _∙_, subst₂, List, [], _++_, append-assoc, append-nil, none}
-use Rattle.model.proofs.Kit.{some, Option, ℕ, zero, suc, _+_, _≤_, _<_, _*_, length, drop, drop-of-length-le, getD, w8}
-use Rattle.model.proofs.Kit.{w32, Fits, lt-of-not-le, add-one, arith}
+use Rattle.model.proofs.Kit.{_≡_, refl, sym, ap, subst, _∙_, subst₂, List, [], _∷_, _++_, append-assoc, append-nil}
+use Rattle.model.proofs.Kit.{none, some, Option, ℕ, zero, suc, _+_, _≤_, _<_, _*_, length, drop, drop-of-length-le}
+use Rattle.model.proofs.Kit.{getD, w8, w32, Fits, lt-of-not-le, add-one, arith}
 use native.Mathlib.Nat.{mul-le-mul-right}
-use Rattle.model.specs.declared.StepAnswer.{StepAnswer}
 use Rattle.model.specs.Calls.{boardRefusal}
 use Rattle.model.specs.Forms.{Item, station, times, Items, next, repeated, expandItem, expand, Read, found, andThen}
 use Rattle.model.specs.Forms.{spaced, numberIn, natural, timesIn, itemIn, itemsIn}
@@ -16,9 +15,9 @@ use Rattle.lexer.proofs.Laws.Given.{never, found-one, Through, through}
 use Rattle.lexer.proofs.Laws.Known.{stands-there, known-found, known-range}
 use Rattle.sheet.proofs.Laws.Items.{as-number, as-times}
 use Rattle.sheet.proofs.Laws.Times.{times-number}
-use Rattle.stepping.specs.Stepped.{StepsOn, RunsOn, counts}
+use Rattle.stepping.specs.Stepped.{RunsOn}
 use Rattle.stepping.proofs.Laws.Running.{runs-below}
-use Rattle.stepping.proofs.Laws.Joined.{runs-none, runs-one, runs-then, runs-sound, runs-length}
+use Rattle.stepping.proofs.Laws.Joined.{runs-none, runs-then, runs-sound, runs-length}
 use Rattle.line_run.specs.declared.PartRun.{PartRun}
 use Rattle.line_run.specs.LineRuns.{RanPart, PartRuns, ItemReads, ItemsRead, ItemRuns, ItemsRun}
 use Rattle.line_run.proofs.Laws.Fuel.{agree}
@@ -84,15 +83,15 @@ module _ (line : List ℕ) (at : ℕ) (no-bracket : getD line at 0 ≡ 40 → �
           );
         }
 
-    pub one-step : (b d : List ℕ) (a : StepAnswer) → StepsOn (n .value) b a d → (m : ℕ) → m ≡ counts a
+    pub one-step : (b d : List ℕ) (m : ℕ) → RunsOn (n .value ∷ []) b m d
         → ItemRuns line at b (record { taken = m; next = n .next }) d
     unfolding andThen found expandItem
-    one-step b d a steps m c =
+    one-step b d m steps =
         runs-as line at b d _ (station (n .value)) (drop (n .next) line)
         (λ k. as-number line at no-bracket k
         ∙ rw (known-found line at 0 99 (omega arith) (station-read .0) (station-read .1) n is))
         (record {
-          ran = runs-one (n .value) b a d steps m c;
+          ran = steps;
           follows = refl;
           behind = is .inside .0;
           inside = is .inside .1;

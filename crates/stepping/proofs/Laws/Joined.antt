@@ -1,32 +1,28 @@
 -- Runs put together of runs: of no station, of one, and of one list after another; a run keeps the board sound and its
 -- length.
--- Relies on the model's runs; the run of items relies on it, which runs them one after another.
-use Rattle.model.proofs.Kit.{_≡_, refl, sym, ap, subst, _∙_, cond, List, [], _∷_, _++_, none, ℕ, _+_, _<_, lit<, length}
-use Rattle.model.proofs.Kit.{length-append, arith}
-use Rattle.model.specs.declared.StepAnswer.{StepAnswer}
+-- Relies on the model's runs; the laws of Repeated and the run of items rely on it.
+use Rattle.model.proofs.Kit.{_≡_, refl, sym, ap, subst, _∙_, Bool, true, false, cond, List, [], _∷_, _++_, none, ℕ, _+_}
+use Rattle.model.proofs.Kit.{_≤_, _<_, lit<, length, length-append, arith}
 use Rattle.model.specs.Bytes.{byte}
-use Rattle.model.specs.Figure.{Figure}
-use Rattle.model.specs.Listing.{Answer, accepted}
 use Rattle.model.specs.Layout.{boardLength}
 use Rattle.model.specs.Calls.{stations, islands, boardRefusal, stepOn, step}
 use Rattle.model.proofs.Calls.Refusals.{Board, board-of, board-passes}
 use Rattle.model.specs.Runs.{taken, answers, after}
 use Rattle.model.proofs.Calls.Runs.{taken-append, answers-append, after-append, after-on, ran-keeps, ran-head}
-use Rattle.stepping.specs.Stepped.{StepsOn, RunsOn, counts}
-use Rattle.stepping.proofs.Laws.Running.{count-below}
+use Rattle.stepping.specs.Stepped.{TakesOn, RunsOn}
 
 pub runs-none : (b : List ℕ) → RunsOn [] b 0 b
 unfolding RunsOn taken answers after
 runs-none b = (refl, omega arith, refl)
 
-pub runs-one : (i : ℕ) (b : List ℕ) (a : StepAnswer) (d : List ℕ) → StepsOn i b a d → (m : ℕ) → m ≡ counts a
-    → RunsOn (i ∷ []) b m d
-unfolding RunsOn StepsOn counts taken answers after
-runs-one i b a d s m e = (
-  omega (arith, ap {B = ℕ} (λ (x : Answer Figure). cond (accepted x) 1 0) (s .0)),
-  omega (arith, count-below a),
-  s .1,
-)
+-- of one, by whether it took its step
+pub runs-one : (i : ℕ) (b : List ℕ) (r : Bool) (d : List ℕ) → TakesOn i b r d → RunsOn (i ∷ []) b (cond r 1 0) d
+unfolding RunsOn TakesOn taken answers after
+runs-one i b r d s = (omega (arith, ap {B = ℕ} (λ (x : Bool). cond x 1 0) (s .0)), below r, s .1)
+  where
+    below : (r : Bool) → cond r 1 0 ≤ 1
+    below true = omega arith
+    below false = omega arith
 
 pub runs-then : (is js b d e : List ℕ) (r s : ℕ) → RunsOn is b r d → RunsOn js d s e → RunsOn (is ++ js) b (r + s) e
 unfolding RunsOn

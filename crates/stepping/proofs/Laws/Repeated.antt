@@ -1,7 +1,7 @@
 -- Steps on a sound board one after another: the board that they leave, and those of one station, whose place stays.
--- Relies on Stepping, on runs put together and on the model's refused steps; the proof of `repeated::steps_of` relies
--- on it, and so do those of rounds.
-use Rattle.model.proofs.Kit.{_≡_, refl, sym, ap, subst, _∙_, Bool, true, false, not, List, [], _∷_, _++_, none, ℕ}
+-- Relies on Stepping, on runs put together and on the model's refused steps; the proofs of `repeated` rely on it,
+-- and so do those of rounds.
+use Rattle.model.proofs.Kit.{_≡_, refl, sym, ap, subst, _∙_, Bool, true, false, cond, not, List, [], _∷_, _++_, none, ℕ}
 use Rattle.model.proofs.Kit.{zero, suc, _+_, _-_, _≤_, _<_, T, lit<, length, replicate, getD, arith}
 use lib.ListN.{replicate-append-replicate}
 use Rattle.model.specs.declared.StepAnswer.{StepAnswer}
@@ -20,7 +20,7 @@ use Rattle.soundness.specs.declared.place.Place.the-variants as places
 use Rattle.soundness.specs.Placed.{Placed}
 use Rattle.soundness.proofs.Laws.Placing.{at-place}
 use Rattle.stepping.specs.Stepped.{Known, StepsOn, TakesOn, RunsOn}
-use Rattle.stepping.proofs.Laws.Joined.{runs-sound, runs-head, runs-length}
+use Rattle.stepping.proofs.Laws.Joined.{runs-one, runs-sound, runs-head, runs-length}
 use Rattle.stepping.proofs.Laws.Stepping as stepping
 
 -- the steps `is` were taken on the board b, and d is the board that they leave
@@ -102,6 +102,36 @@ module _ (n K j at : ℕ) (b : List ℕ) (k : Known n K j at b) where
     stations = k .stations ∙ sym (r .head);
     islands = k .islands ∙ sym (r .islands);
   }
+
+-- ---- one step of the station with a number, counted
+
+pub nowhere-counts : (s : ℕ) (b : List ℕ) (p : Place) → p ≡ places.Nowhere → Placed s b p → RunsOn (s ∷ []) b 0 b
+unfolding StepsOn TakesOn
+nowhere-counts s b p e h =
+    let one = stepping.no-station s b p e h in
+    runs-one s b false b (sym (not-accepted s b 12 one), one .1)
+
+module _ (s : ℕ) (b : List ℕ) (p : Place) (j at : ℕ) (is : p ≡ places.At j at) (h : Placed s b p)
+    (sound : boardRefusal b none ≡ none) where
+  place : Known (getD b 0 0) (getD b 1 0) j at b
+  place = stepping.known-at s b p j at is h sound
+
+  counts : (r : Bool) (d : List ℕ) → TakesOn (j + 1) b r d → RunsOn (s ∷ []) b (cond r 1 0) d
+  counts r d one =
+      let o = at-place s b p j at is h in
+      let q : j + 1 ≡ s = omega (arith, o .low, o .index) in
+      runs-one s b r d (subst (λ (k : ℕ). TakesOn k b r d) q one)
+
+  pub idle-counts : getD b at 0 ≡ 0 → RunsOn (s ∷ []) b 0 b
+  idle-counts z = counts false b (idle-stays _ _ j at b place z)
+
+  pub done-counts : 6 < getD b at 0 → RunsOn (s ∷ []) b 0 b
+  done-counts l = counts false b (done-stays _ _ j at b place l)
+
+  pub going-counts : (getD b at 0 ≡ 0 → ⊥) → getD b at 0 ≤ 6 → (a : StepAnswer) (d : List ℕ)
+      → StepsOn (j + 1) b a d
+      → RunsOn (s ∷ []) b 1 d
+  going-counts z l a d one = counts true d (takes _ _ j at b place z l a d one)
 
 -- ---- its steps one after another
 

@@ -1,22 +1,19 @@
 -- A run: one more step of the loop, and the answer at each return.
 -- Relies on the model's runs; the proofs of `run_on` and `run` rely on it.
-use Rattle.model.proofs.Kit.{_≡_, refl, sym, ap, subst, _∙_, Bool, true, false, cond, List, [], _∷_, _++_, none, some}
-use Rattle.model.proofs.Kit.{ℕ, _+_, _-_, _≤_, _<_, lt-leb, leb, le→leb, length, take, getD, take-all, add-one, arith}
+use Rattle.model.proofs.Kit.{_≡_, refl, sym, ap, subst, _∙_, List, [], _∷_, _++_, none, some, ℕ, _+_, _-_, _≤_, _<_}
+use Rattle.model.proofs.Kit.{lt-leb, leb, le→leb, length, take, getD, take-all, add-one, arith}
 use lib.Seq.{take-suc}
 use Rattle.model.specs.declared.Verdict.{Verdict}
 use Rattle.model.specs.declared.Verdict.the-variants as verdicts
-use Rattle.model.specs.declared.StepAnswer.{StepAnswer}
 use Rattle.model.specs.declared.RunVerdict.the-variants.{Ran, Refused}
-use Rattle.model.specs.Figure.{Figure}
-use Rattle.model.specs.Listing.{Answer, accepted}
 use Rattle.model.specs.Calls.{After, Refusal, RunAnswer, ran, notRun, boardRefusal, unless, unlessRefused, stepOn, step}
 use Rattle.model.specs.Calls.{ranFrom, run}
-use Rattle.model.specs.Told.{told, verdict, runTold}
+use Rattle.model.specs.Told.{verdict, runTold}
 use Rattle.model.proofs.Calls.Refusals.{board-of, board-passes, unless-fails, unless-passes}
 use Rattle.model.proofs.Calls.CallsKeep.{stepOn-keeps}
 use Rattle.model.specs.Runs.{taken, passed, answers, after}
 use Rattle.model.proofs.Calls.Runs.{taken-append, answers-append, after-append, ran-is, ran-both, run-on}
-use Rattle.stepping.specs.Stepped.{StepsOn, RunsOn, counts}
+use Rattle.stepping.specs.Stepped.{RunsOn}
 use Rattle.stepping.proofs.Laws.Checking.{turned}
 
 -- after the first i stations: the board d and the count k
@@ -34,44 +31,31 @@ begun is b s = record { inside = omega arith; count = refl; below = omega arith;
 one-more : (is : List ℕ) (i : ℕ) → i < length is → take (i + 1) is ≡ take i is ++ (getD is i 0 ∷ [])
 one-more is i h = ap (λ (k : ℕ). take k is) (add-one i) ∙ take-suc is i 0 h
 
-pub count-below : (a : StepAnswer) → counts a ≤ 1
-unfolding counts
-count-below a = go (accepted (told a))
-  where
-    go : (t : Bool) → cond t 1 0 ≤ 1
-    go true = omega arith
-    go false = omega arith
-
 pub again : (is b : List ℕ) (i : ℕ) (d : List ℕ) (k : ℕ) → After-i is b i d k → i < length is
-    → (a : StepAnswer) (e : List ℕ) → StepsOn (getD is i 0) d a e → (m : ℕ) → m ≡ counts a
-    → After-i is b (i + 1) e (k + m)
-unfolding StepsOn counts taken answers after
-again is b i d k h l a e s m q = record {
-  inside = omega arith;
-  count =
-      (λ j. h .count j + (q ∙ ap (λ (x : Answer Figure). cond (accepted x) 1 0) answer) j)
-      ∙ omega (arith, taken-append (answers stepOn b (take i is)) (stepOn (getD is i 0) before .answer ∷ []))
-      ∙ ap taken (sym (ap (answers stepOn b) (one-more is i l) ∙ answers-append stepOn b (take i is)
-      (getD is i 0 ∷ [])));
-  below = omega (arith, h .below, count-below a);
-  bytes =
-      s .1 ∙ ap (λ (x : List ℕ). stepOn (getD is i 0) x .bytes) (h .bytes)
-      ∙ sym (ap (after stepOn b) (one-more is i l) ∙ after-append stepOn b (take i is) (getD is i 0 ∷ []));
-  sound =
-      subst (λ (x : List ℕ). boardRefusal x none ≡ none) (sym (s .1))
-      (board-passes _ (stepOn-keeps (getD is i 0) d (board-of d none (h .sound) .0)) none);
-}
-  where
-    before : List ℕ
-    before = after stepOn b (take i is)
-
-    answer : told a ≡ stepOn (getD is i 0) before .answer
-    answer = s .0 ∙ ap (λ (x : List ℕ). stepOn (getD is i 0) x .answer) (h .bytes)
+    → (m : ℕ) (e : List ℕ) → RunsOn (getD is i 0 ∷ []) d m e → After-i is b (i + 1) e (k + m)
+unfolding RunsOn after
+again is b i d k h l m e s =
+    let next : List ℕ = getD is i 0 ∷ [] in
+    record {
+      inside = omega arith;
+      count =
+          (λ j. h .count j + (s .0 ∙ ap (λ (x : List ℕ). taken (answers stepOn x next)) (h .bytes)) j)
+          ∙ sym (taken-append (answers stepOn b (take i is)) (answers stepOn (after stepOn b (take i is)) next))
+          ∙ ap taken (sym (ap (answers stepOn b) (one-more is i l) ∙ answers-append stepOn b (take i is) next));
+      below = let one : m ≤ 1 = s .1 in omega (arith, h .below);
+      bytes =
+          s .2 ∙ ap (λ (x : List ℕ). after stepOn x next) (h .bytes)
+          ∙ sym (ap (after stepOn b) (one-more is i l) ∙ after-append stepOn b (take i is) next);
+      sound =
+          subst (λ (x : List ℕ). boardRefusal x none ≡ none) (sym (s .2))
+          (board-passes _ (stepOn-keeps (getD is i 0) d (board-of d none (h .sound) .0)) none);
+    }
 
 -- the count stays far below what 32 bits hold
 pub small : (is b : List ℕ) (i : ℕ) (d : List ℕ) (k : ℕ) → After-i is b i d k → length is ≤ 65536
-    → (a : StepAnswer) (m : ℕ) → m ≡ counts a → k + m < 4294967296
-small is b i d k h l a m q = omega (arith, h .below, h .inside, count-below a)
+    → (x m : ℕ) (e : List ℕ) → RunsOn (x ∷ []) d m e → k + m < 4294967296
+unfolding RunsOn
+small is b i d k h l x m e s = let one : m ≤ 1 = s .1 in omega (arith, h .below, h .inside)
 
 pub ended : (is b : List ℕ) (i : ℕ) (d : List ℕ) (k : ℕ) → After-i is b i d k → length is ≤ i → RunsOn is b k d
 unfolding RunsOn

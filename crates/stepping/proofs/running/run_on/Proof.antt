@@ -15,5 +15,5 @@ abbrev μ-loop : tie.MeasureT-loop
 pub run-on-spec : {M : Type 1} → statement M
 run-on-spec =
     tie.close (tie.spec Inv-loop μ-loop (λ c. search begun) (λ c. search needs) (λ c κs. search needs)
-    (λ c κs. search needs) (λ c. search small) (λ c. search needs) (λ c. search needs) (λ c. search again)
+    (λ c. search small) (λ c. search needs) (λ c. search needs) (λ c. search again)
     (λ c. search needs) (λ c. search ended))
