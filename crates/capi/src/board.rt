@@ -7,6 +7,7 @@ ghost use Rattle.model.specs.Rounds.{lentRounds, rounds};
 ghost use Rattle.model.specs.Standing.{standing};
 ghost use Rattle.packing.specs.Packing.{packVerdict, packStep, packRun, packRounds, packStanding};
 ghost use Rattle.capi.specs.LentLines.{countable};
+use crate::lent_lines::NOT_PLAYED;
 use packing::rounds_number;
 use packing::run_number;
 use packing::standing_number;
@@ -47,9 +48,6 @@ pub extern "C" fn lufanelis_run(board: &mut [u8], stations: &[u8]) -> u64
 {
     run_number(calls::run(board, stations))
 }
-
-// The number for a call that cannot be made: no other case gives it.
-const NOT_PLAYED: u64 = 0xFFFFFFFFFFFFFFFF;
 
 #[no_mangle]
 pub extern "C" fn lufanelis_rounds(board: &mut [u8], most: u8, named: &[u8]) -> u64

@@ -10,10 +10,10 @@ ghost use lib.ListN.{length};
 use packing::verdict_number;
 use packing::word_number;
 
-// The number for a call that cannot be made: no other case gives it.
+// The numbers for a call that cannot be made: no other case gives them.
 const NO_ROOM: u32 = 0xFFFFFFFF;
 
-const NOT_PLAYED: u64 = 0xFFFFFFFFFFFFFFFF;
+pub const NOT_PLAYED: u64 = 0xFFFFFFFFFFFFFFFF;
 
 #[no_mangle]
 pub extern "C" fn lufanelis_show(board: &[u8], line: &mut [u8]) -> u32

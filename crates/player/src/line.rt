@@ -1,6 +1,6 @@
 // One line of a run sheet on a lent memory: refusals 2 to 6, then the call's own, and the printed line by value.
-// Relies on the reader of lines, the run of items, the play of rounds, the calls and the lines they print; the answers of a sheet and the C
-// interface rely on it.
+// Relies on the reader of lines, the run of items, the play of rounds, the calls and the lines they print; the answers of
+// a sheet and the C interface rely on it.
 ghost use mathlib.Core.Path.{_≡_};
 ghost use Prim.Native.Nat.{min};
 ghost use Rattle.model.specs.Forms as forms;
