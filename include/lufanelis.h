@@ -105,11 +105,13 @@ uint8_t lufanelis_check(const uint8_t *board, size_t board_length);
  *   bits 32 to 63   the figure of these five, 32 bits of two's complement; else 0 */
 uint64_t lufanelis_step(uint8_t *board, size_t board_length, uint8_t station);
 
-/* How one station stands: what a station asks that comes back to a board. Writes nothing. Answers
+/* How one station stands, and how many steps it took: what a station asks that comes back to a board, and what is asked of a
+ * board afterwards. Writes nothing. Answers
  *   bits 0 to 7     the refusal's number (7 to 12), 0 for an answer
  *   bits 8 to 11    how it stands, 1 to 4 as above; 0 beside a refusal
  *   bits 12 to 19   the island where it stands; 0 for an idle station and beside a refusal
- *   bits 20 to 31   0
+ *   bits 20 to 31   the steps that it has taken since its proposal, at most 3,264; refused ones do not count, and those of runs
+ *                   and rounds do; 0 for an idle station and beside a refusal
  *   bits 32 to 63   the figure that it carries, 32 bits of two's complement, which is the decided one where it has decided;
  *                   0 for an idle station and beside a refusal */
 uint64_t lufanelis_standing(const uint8_t *board, size_t board_length, uint8_t station);
@@ -189,6 +191,7 @@ static inline uint8_t lufanelis_step_flag(uint64_t answer)
 static inline uint8_t lufanelis_standing_refusal(uint64_t answer) { return (uint8_t)(answer & 0xFF); }
 static inline uint8_t lufanelis_standing_kind(uint64_t answer) { return (uint8_t)(answer >> 8 & 0xF); }
 static inline uint8_t lufanelis_standing_island(uint64_t answer) { return (uint8_t)(answer >> 12 & 0xFF); }
+static inline uint16_t lufanelis_standing_steps(uint64_t answer) { return (uint16_t)(answer >> 20 & 0xFFF); }
 static inline int32_t lufanelis_standing_figure(uint64_t answer) { return lufanelis_figure((uint32_t)(answer >> 32)); }
 
 static inline uint8_t lufanelis_run_refusal(uint64_t answer) { return (uint8_t)(answer & 0xFF); }

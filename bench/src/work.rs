@@ -2,6 +2,7 @@
 
 use reference::bytes::length;
 use reference::engine::{Engine, Reference, SHOWN};
+use reference::habits::{self, rising};
 
 pub const SIZES: [(u8, u8); 9] = [(1, 2), (1, 8), (1, 64), (3, 2), (3, 8), (3, 64), (16, 2), (16, 8), (16, 64)];
 
@@ -52,28 +53,13 @@ impl Case {
     }
 }
 
-/// A fresh board on which every station has proposed: a higher station a higher figure, all of eleven characters.
-pub fn proposed(n: u8, k: u8) -> Vec<u8> {
-    let mut board = vec![0; length(n, k)];
-    assert_eq!(Reference.lay(&mut board, n, k), 0);
-    for station in 1..=n {
-        assert_eq!(Reference.propose(&mut board, station, i32::MIN + station as i32), 0);
-    }
-    board
-}
-
-/// The longest list of which every step is taken. On each island the stations read m and A one after the other, the
-/// lowest figure first; then all but the first go through B, and the first comes last with its commit. It meets adopts,
-/// they met no commit, and so every one of them takes all its 3n + 3 steps on all K islands. A station alone decides
-/// on its first island.
+/// The longest list of which every step is taken. A station alone decides on its first island.
 pub fn contended(n: u8, k: u8) -> Vec<u8> {
-    let collect = n as usize + 1;
+    let mut list = habits::contended(n, k).single_steps(n);
     if n == 1 {
-        return vec![1; 3 * collect];
+        list.truncate(6);
     }
-    let turns: Vec<u8> = (1..=n).chain(1..=n).chain(2..=n).chain([1]).collect();
-    let island: Vec<u8> = turns.iter().flat_map(|s| vec![*s; collect]).collect();
-    island.repeat(k as usize)
+    list
 }
 
 /// All stations in turn.
@@ -95,7 +81,7 @@ fn step_in_run(name: &str, board: &[u8], station: u8) -> [Case; 2] {
 
 /// The kinds of step, made by station 1 alone, so that they meet the same at every n and K.
 fn kinds(n: u8, k: u8) -> Vec<Case> {
-    let fresh = proposed(n, k);
+    let fresh = rising(n, k);
     let mut cases = Vec::new();
     for (at, array) in ["m", "A", "B"].iter().enumerate() {
         let begun = at * (n as usize + 1);
@@ -130,7 +116,7 @@ fn line_pair(name: &str, board: &[u8], lines: [String; 2]) -> [Case; 2] {
 fn settling_lines(n: u8, k: u8) -> [Case; 2] {
     let turns: String = (1..=n).map(|station| format!(" (times {} {station})", n + 1)).collect();
     let rounds = format!("(rounds 0{})", " ()".repeat(MOST_ROUNDS));
-    line_pair("settling", &proposed(n, k), [rounds, format!("(steps (times {MOST_ROUNDS}{turns}))")])
+    line_pair("settling", &rising(n, k), [rounds, format!("(steps (times {MOST_ROUNDS}{turns}))")])
 }
 
 /// Three stations that one suspended station a round keeps from deciding: every step is taken.
@@ -155,7 +141,7 @@ fn round_lines(n: u8, k: u8) -> Vec<Case> {
 
 /// Every call that is measured for one n and K.
 pub fn cases(n: u8, k: u8) -> Vec<Case> {
-    let fresh = proposed(n, k);
+    let fresh = rising(n, k);
     let taken = contended(n, k);
     // Half of the list ends an island; from there every station goes through m, and the first one has written to A.
     let half = if n == 1 { 3 } else { taken.len() / 2 + n as usize * (n as usize + 1) + 1 };

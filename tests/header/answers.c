@@ -58,6 +58,7 @@ static void parts(void)
     PART(lufanelis_standing_refusal, BITS(0, 8), 255);
     PART(lufanelis_standing_kind, BITS(8, 4), 15);
     PART(lufanelis_standing_island, BITS(12, 8), 255);
+    PART(lufanelis_standing_steps, BITS(20, 12), 4095);
     PART(lufanelis_standing_figure, BITS(32, 32), -1);
     PART(lufanelis_run_refusal, BITS(0, 8), 255);
     PART(lufanelis_run_taken, BITS(8, 24), 16777215);
@@ -91,38 +92,50 @@ static int steps(uint64_t answer, uint8_t kind, uint8_t island, uint8_t flag, in
            lufanelis_step_figure(answer) == figure;
 }
 
-static int stands(uint8_t station, uint8_t kind, uint8_t island, int32_t figure)
+static int stands(uint8_t station, uint8_t kind, uint8_t island, int32_t figure, uint16_t taken)
 {
     uint64_t answer = lufanelis_standing(board, sizeof board, station);
 
     return lufanelis_standing_refusal(answer) == LUFANELIS_ACCEPTED && lufanelis_standing_kind(answer) == kind &&
-           lufanelis_standing_island(answer) == island && lufanelis_standing_figure(answer) == figure;
+           lufanelis_standing_island(answer) == island && lufanelis_standing_figure(answer) == figure &&
+           lufanelis_standing_steps(answer) == taken;
+}
+
+/* Beside a refusal no part of the answer is set. */
+static int stands_refused(size_t length, uint8_t station, uint8_t refusal)
+{
+    return lufanelis_standing(board, length, station) == refusal;
 }
 
 /* A station alone: every step to its decision. */
 static void alone(int32_t figure)
 {
     HOLDS(lufanelis_lay(board, sizeof board, 2, 2) == LUFANELIS_ACCEPTED);
-    HOLDS(stands(1, LUFANELIS_STANDS_IDLE, 0, 0));
+    HOLDS(stands(1, LUFANELIS_STANDS_IDLE, 0, 0, 0));
     HOLDS(lufanelis_step_refusal(step(1)) == LUFANELIS_IDLE && lufanelis_step_kind(step(1)) == 0);
+    HOLDS(stands(1, LUFANELIS_STANDS_IDLE, 0, 0, 0));
     HOLDS(lufanelis_propose(board, sizeof board, 1, figure) == LUFANELIS_ACCEPTED);
-    HOLDS(stands(1, LUFANELIS_STANDS_GOING, 0, figure));
+    HOLDS(stands(1, LUFANELIS_STANDS_GOING, 0, figure, 0));
     HOLDS(steps(step(1), LUFANELIS_WROTE, 0, 0, 0));
+    HOLDS(stands(1, LUFANELIS_STANDS_GOING, 0, figure, 1));
     HOLDS(steps(step(1), LUFANELIS_READ, 0, 0, 0));
+    HOLDS(stands(1, LUFANELIS_STANDS_GOING, 0, figure, 2));
     HOLDS(steps(step(1), LUFANELIS_WENT, 0, 0, figure));
+    HOLDS(stands(1, LUFANELIS_STANDS_GOING, 0, figure, 3));
     HOLDS(steps(step(1), LUFANELIS_WROTE, 0, 0, 0));
     HOLDS(steps(step(1), LUFANELIS_READ, 0, 0, 0));
     HOLDS(steps(step(1), LUFANELIS_MARKED, 0, LUFANELIS_COMMIT, figure));
     HOLDS(steps(step(1), LUFANELIS_WROTE, 0, 0, 0));
-    HOLDS(stands(1, LUFANELIS_STANDS_GOING, 0, figure));
+    HOLDS(stands(1, LUFANELIS_STANDS_GOING, 0, figure, 7));
     HOLDS(steps(step(1), LUFANELIS_READ, 0, 0, 0));
     HOLDS(steps(step(1), LUFANELIS_DECIDED, 0, 0, figure));
-    HOLDS(stands(1, LUFANELIS_STANDS_DECIDED, 0, figure));
-    HOLDS(stands(2, LUFANELIS_STANDS_IDLE, 0, 0));
+    HOLDS(stands(1, LUFANELIS_STANDS_DECIDED, 0, figure, 9));
+    HOLDS(stands(2, LUFANELIS_STANDS_IDLE, 0, 0, 0));
     HOLDS(lufanelis_step_refusal(step(1)) == LUFANELIS_HAS_DECIDED);
-    HOLDS(lufanelis_standing_refusal(lufanelis_standing(board, sizeof board, 0)) == LUFANELIS_NO_SUCH_STATION);
-    HOLDS(lufanelis_standing_refusal(lufanelis_standing(board, sizeof board, 3)) == LUFANELIS_NO_SUCH_STATION);
-    HOLDS(lufanelis_standing_refusal(lufanelis_standing(board, sizeof board - 1, 1)) == LUFANELIS_BAD_BOARD_LENGTH);
+    HOLDS(stands(1, LUFANELIS_STANDS_DECIDED, 0, figure, 9));
+    HOLDS(stands_refused(sizeof board, 0, LUFANELIS_NO_SUCH_STATION));
+    HOLDS(stands_refused(sizeof board, 3, LUFANELIS_NO_SUCH_STATION));
+    HOLDS(stands_refused(sizeof board - 1, 1, LUFANELIS_BAD_BOARD_LENGTH));
 }
 
 /* Two stations that circle until they are spent; the last step of each island is looked at. */
@@ -137,12 +150,13 @@ static void circling(void)
     ran = lufanelis_run(board, sizeof board, island, sizeof island);
     HOLDS(lufanelis_run_refusal(ran) == LUFANELIS_ACCEPTED);
     HOLDS(lufanelis_run_taken(ran) == sizeof island && lufanelis_run_passed(ran) == 0);
-    HOLDS(stands(1, LUFANELIS_STANDS_GOING, 1, 7));
+    HOLDS(stands(1, LUFANELIS_STANDS_GOING, 1, 7, 9));
     HOLDS(steps(step(2), LUFANELIS_ADOPTED, 1, 0, 3));
     lufanelis_run(board, sizeof board, island, sizeof island);
-    HOLDS(stands(1, LUFANELIS_STANDS_SPENT, 1, 7));
+    HOLDS(stands(1, LUFANELIS_STANDS_SPENT, 1, 7, 18));
+    HOLDS(stands(2, LUFANELIS_STANDS_GOING, 1, 3, 17));
     HOLDS(steps(step(2), LUFANELIS_SPENT, 1, 0, 3));
-    HOLDS(stands(2, LUFANELIS_STANDS_SPENT, 1, 3));
+    HOLDS(stands(2, LUFANELIS_STANDS_SPENT, 1, 3, 18));
     HOLDS(lufanelis_step_refusal(step(2)) == LUFANELIS_IS_SPENT);
 }
 
@@ -186,9 +200,9 @@ static void rounds(void)
     HOLDS(refuses(rounds_of(1, "\0", 1), LUFANELIS_BAD_ROUND));
     HOLDS(refuses(rounds_of(1, "\1\2", 2), LUFANELIS_BAD_ROUND));
     HOLDS(refuses(rounds_of(2, "\2\1", 2), LUFANELIS_BAD_ROUND));
-    HOLDS(stands(1, LUFANELIS_STANDS_GOING, 0, 7) && stands(2, LUFANELIS_STANDS_GOING, 0, 3));
+    HOLDS(stands(1, LUFANELIS_STANDS_GOING, 0, 7, 0) && stands(2, LUFANELIS_STANDS_GOING, 0, 3, 0));
     HOLDS(plays(rounds_of(1, "\2\377\2\377\2", 5), 3, 1));
-    HOLDS(stands(1, LUFANELIS_STANDS_DECIDED, 0, 7) && stands(2, LUFANELIS_STANDS_GOING, 0, 3));
+    HOLDS(stands(1, LUFANELIS_STANDS_DECIDED, 0, 7, 9) && stands(2, LUFANELIS_STANDS_GOING, 0, 3, 0));
     HOLDS(steps(step(2), LUFANELIS_WROTE, 0, 0, 0));
     HOLDS(refuses(rounds_of(0, "", 0), LUFANELIS_AMID_COLLECT));
     HOLDS(refuses(rounds_of(0, "\0", 1), LUFANELIS_AMID_COLLECT));
@@ -212,6 +226,30 @@ static void too_many_rounds(void)
     HOLDS(lufanelis_rounds(board, 7, 0, named, longest + 1) == LUFANELIS_NOT_PLAYED);
     HOLDS(refuses(lufanelis_rounds(board, 7, 0, named, longest), LUFANELIS_BOARD_TOO_SHORT));
     free(named);
+}
+
+/* Every step that the largest board has: on each island all go through m and A in turn, then all but the first through B, and
+ * the first comes last. So nobody decides, and every station takes 51 steps on each of 64 islands. */
+static void most_steps(void)
+{
+    static const uint8_t island[] = {255, 255, 1, 255, 2, 3, 4, 5, 6, 7, 8, 9, 10, 11, 12, 13, 14, 15, 16};
+    static uint8_t largest[LUFANELIS_LARGEST_BOARD];
+    uint8_t station;
+    uint64_t answer;
+    uint16_t passes;
+
+    HOLDS(lufanelis_lay(largest, sizeof largest, 16, 64) == LUFANELIS_ACCEPTED);
+    for (station = 1; station <= 16; station++)
+        HOLDS(lufanelis_propose(largest, sizeof largest, station, station) == LUFANELIS_ACCEPTED);
+    for (passes = 1; passes <= 64; passes++) {
+        HOLDS(plays(lufanelis_rounds(largest, sizeof largest, 15, island, sizeof island), 4, 0));
+        for (station = 1; station <= 16; station++) {
+            answer = lufanelis_standing(largest, sizeof largest, station);
+            HOLDS(lufanelis_standing_steps(answer) == passes * 51);
+            HOLDS(lufanelis_standing_kind(answer) == (passes < 64 ? LUFANELIS_STANDS_GOING : LUFANELIS_STANDS_SPENT));
+            HOLDS(lufanelis_standing_figure(answer) == station);
+        }
+    }
 }
 
 /* The longest line that any board has: every station decided on island 63, on a figure of eleven characters. */
@@ -291,6 +329,7 @@ int main(void)
     runs();
     rounds();
     too_many_rounds();
+    most_steps();
     shows();
     words();
     lines();

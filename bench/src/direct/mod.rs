@@ -43,6 +43,11 @@ fn figure(r: &[u8; RECORD], at: usize) -> i32 {
     i32::from_le_bytes([r[at], r[at + 1], r[at + 2], r[at + 3]])
 }
 
+/// The steps that the station has taken since its proposal.
+fn steps(r: &[u8; RECORD]) -> u16 {
+    u16::from_le_bytes([r[20], r[21]])
+}
+
 fn collects(phase: u8) -> bool {
     matches!(phase, 2 | 4 | 6)
 }
@@ -146,6 +151,7 @@ impl Engine for Direct {
             return 12;
         }
         let r = &board[records_at(n, k)..][RECORD * who..][..RECORD];
+        let r: &[u8; RECORD] = r.try_into().expect("a record's length");
         let kind = match r[0] {
             0 => 1,
             7 => 3,
@@ -153,7 +159,7 @@ impl Engine for Direct {
             _ => 2,
         };
         // An idle station's record is all zero.
-        word(&r[8..16]) >> 32 << 32 | (r[2] as u64) << 12 | kind << 8
+        word(&r[8..16]) >> 32 << 32 | (steps(r) as u64) << 20 | (r[2] as u64) << 12 | kind << 8
     }
 
     fn run(&self, board: &mut [u8], stations: &mut [u8]) -> u64 {

@@ -1,6 +1,6 @@
 //! The test of a lent board, in one pass over its bytes.
 
-use super::{cell, cell_at, collects, figure, fits, records_at, word, RECORD};
+use super::{cell, cell_at, collects, figure, fits, records_at, steps, word, RECORD};
 
 /// Refusals 7 to 11, and n and K of a sound board.
 pub fn checked(board: &[u8]) -> Result<(usize, usize), u8> {
@@ -52,7 +52,7 @@ fn fields_sound(r: &[u8; RECORD], n: usize, k: usize) -> bool {
     let best = figure(r, 16);
     let flags = if matches!(phase, 5 | 6) { flag == 1 || flag == 2 } else { flag == 0 };
     let ranges = phase <= 8 && (next as usize) < n && (island as usize) < k && (best_island as usize) < k;
-    let zeros = r[6..8] == [0; 2] && r[20..24] == [0; 4];
+    let zeros = r[6..8] == [0; 2] && r[22..24] == [0; 2];
     let summary = match phase {
         2 => seen <= 1,
         4 => seen <= 2,
@@ -65,6 +65,14 @@ fn fields_sound(r: &[u8; RECORD], n: usize, k: usize) -> bool {
         && summary
         && (phase == 2 || best_island == 0)
         && (seen != 0 || best_island == 0 && best == 0)
+        && steps(r) as usize <= most_steps(n, phase, island, next)
+}
+
+/// An island has three arrays, each with a write and n reads; phases 7 and 8 have all three behind them.
+fn most_steps(n: usize, phase: u8, island: u8, next: u8) -> usize {
+    let arrays = 3 * island as usize + (phase as usize - 1) / 2;
+    let begun = if collects(phase) { 1 + next as usize } else { 0 };
+    arrays * (n + 1) + begun
 }
 
 fn own_sound(cells: &[u8], r: &[u8; RECORD], n: usize, who: usize) -> bool {

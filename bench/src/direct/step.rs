@@ -1,6 +1,6 @@
 //! One step on a board that is known to be sound.
 
-use super::{cell, cell_at, collects, figure, word, RECORD};
+use super::{cell, cell_at, collects, figure, steps, word, RECORD};
 
 fn told(kind: u64, place: u8, figure: i32) -> u64 {
     kind << 8 | (place as u64) << 16 | (figure as u32 as u64) << 32
@@ -20,6 +20,8 @@ pub fn step_on(cells: &mut [u8], records: &mut [u8], n: usize, k: usize, station
         8.. => return 16,
         _ => {}
     }
+    let taken = steps(r) + 1;
+    r[20..22].copy_from_slice(&taken.to_le_bytes());
     if !collects(phase) {
         let at = cell_at(n, phase, r[2], who);
         let mark = if phase == 5 { r[5] } else { 1 };

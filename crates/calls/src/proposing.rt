@@ -3,7 +3,7 @@
 ghost use mathlib.Core.Path.{_≡_};
 ghost use mathlib.Core.Option.{none};
 ghost use Rattle.model.specs.Listing.{proposed};
-ghost use Rattle.model.specs.Layout.{recordFields};
+ghost use Rattle.model.specs.Layout.{recordFields, withSteps};
 ghost use Rattle.model.specs.Calls.{boardRefusal, propose};
 ghost use Rattle.model.specs.Told.{verdict};
 ghost use Rattle.calls.specs.Proposing.{Proposes};
@@ -18,10 +18,10 @@ use soundness::place::NO_STATION;
 use soundness::place::Place;
 use soundness::place::station_place;
 
-// "phase 1, c = 0, proposal and carried = the figure". Each field that tells how a station stands is set, so that nothing
-// need be known of the record that stood there.
+// "phase 1, c = 0, proposal and carried = the figure", and no step taken since. Each field is set, so that nothing need be
+// known of the record that stood there.
 fn beginning(station: Record, figure: i32) -> Record
-    ensures { λ r. ⌜ r ≡ recordFields (proposed figure) station ⌝ }
+    ensures { λ r. ⌜ r ≡ recordFields (proposed figure) (withSteps 0 station) ⌝ }
 {
     let mut next = station;
     next.phase = WRITE_M;
@@ -33,6 +33,7 @@ fn beginning(station: Record, figure: i32) -> Record
     next.proposal = figure;
     next.carried = figure;
     next.best = 0;
+    next.steps = 0;
     next
 }
 

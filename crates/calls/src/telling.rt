@@ -1,4 +1,4 @@
-// Telling how one station stands.
+// Telling how one station stands, and its steps.
 // Relies on the test of a board, the place of a station, the codec and the standing by phase; it is a public call.
 ghost use mathlib.Core.Path.{_≡_};
 ghost use mathlib.Core.Option.{none};
@@ -25,6 +25,7 @@ fn standing_on(board: &[u8], station: u8) -> StandingAnswer
     let own = record_at(board, at);
     StandingAnswer::Stands {
         standing: standing_of(own),
+        steps: own.steps,
     }
 }
 

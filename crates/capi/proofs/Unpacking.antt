@@ -1,7 +1,7 @@
 -- What is packed can be read back: each part stands in its own bits, so no two answers are one number, and no line that
 -- is handed back answers with the number for a buffer that is too short.
 -- Relies on the packing's definitions; nothing relies on it but the reader of an answer.
-use Rattle.model.proofs.Kit.{_≡_, List, ℕ, suc, _≤_, _<_, _/_, _%_, length, arith}
+use Rattle.model.proofs.Kit.{_≡_, List, ℕ, suc, _+_, _≤_, _<_, _/_, _%_, _*_, length, arith}
 use Rattle.model.specs.declared.RoundsVerdict.{RoundsVerdict}
 use Rattle.model.specs.declared.RoundsVerdict.the-variants as byRound
 use Rattle.model.specs.Calls.{ran}
@@ -29,13 +29,13 @@ pub step-parts : (number kind field figure : ℕ) → number < 256 → kind < 25
 unfolding packedAt
 step-parts number kind field figure n k f = omega arith
 
--- how a station stands, with bits 20 to 31 free; the code's island is a byte
-pub standing-parts : (number kind island figure : ℕ) → number < 256 → kind < 16 → island < 256
-    → let s : ℕ = packedStanding number kind island figure in
-    (s % 256 ≡ number) × (s / 256 % 16 ≡ kind) × (s / 4096 % 256 ≡ island) × (s / 1048576 % 4096 ≡ 0)
+-- how a station stands and its steps; the code's island is a byte
+pub standing-parts : (number kind island figure steps : ℕ) → number < 256 → kind < 16 → island < 256 → steps ≤ 4095
+    → let s : ℕ = packedStanding number kind island figure + steps * 1048576 in
+    (s % 256 ≡ number) × (s / 256 % 16 ≡ kind) × (s / 4096 % 256 ≡ island) × (s / 1048576 % 4096 ≡ steps)
     × (s / 4294967296 ≡ figure)
 unfolding packedAt
-standing-parts number kind island figure n k i = omega arith
+standing-parts number kind island figure steps n k i l = omega arith
 
 -- a run's counts, beside no refusal's number
 pub run-parts : (s t : ℕ) → s ≤ 65536

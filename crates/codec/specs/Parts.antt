@@ -1,8 +1,15 @@
 -- The parts of a record that are put over the rest of it, which stands already: fields of the record r, in the order in
 -- which they are stored. Relies on the model's layout; the contracts of the functions that put a part rely on it.
 use mathlib.Core.List.{List, [], _∷_}
+use Prim.Native.Nat.{ℕ}
 use Rattle.model.specs.declared.Record.{Record}
-use Rattle.model.specs.Layout.{Change, phaseIs, positionIs, islandIs, seenIs, highestIs, flagIs, carriedIs, bestIs}
+use Rattle.model.specs.Bytes.{part}
+use Rattle.model.specs.Layout.{readRecord, Change, phaseIs, positionIs, islandIs, seenIs, highestIs, flagIs}
+use Rattle.model.specs.Layout.{carriedIs, bestIs}
+
+-- the steps of the record that stands at `at` of the bytes b
+abbrev pub stepsRead : (at : ℕ) → List ℕ → ℕ
+stepsRead at b = readRecord (part at 24 b) .steps
 
 -- all that a write changes
 unfoldable pub phasePart : Record → List Change
@@ -12,7 +19,7 @@ phasePart r = phaseIs (r .phase) ∷ []
 unfoldable pub collectedPart : Record → List Change
 collectedPart r = positionIs (r .position) ∷ seenIs (r .seen) ∷ highestIs (r .highest) ∷ bestIs (r .best) ∷ []
 
--- all that the end of a collect changes, which is every field but the proposal
+-- all that the end of a collect changes, which is every field but the proposal and the steps
 unfoldable pub startedPart : Record → List Change
 startedPart r =
     phaseIs (r .phase) ∷ islandIs (r .island) ∷ flagIs (r .flag) ∷ carriedIs (r .carried) ∷ collectedPart r

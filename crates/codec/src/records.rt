@@ -1,15 +1,18 @@
-// A station record's 24 bytes: six fields of a byte, two zeros, three figures, four zeros.
+// A station record's 24 bytes: six fields of a byte, two zeros, three figures, the steps in two bytes, two zeros.
 // Relies on figures and cells; the soundness test and the calls rely on it.
 ghost use mathlib.Core.Path.{_≡_};
-ghost use Prim.Native.Nat.{_+_, _≤_};
+ghost use mathlib.Core.List.{[], _∷_};
+ghost use Prim.Native.Nat.{_+_, _≤_, _<_};
 ghost use lib.ListN.{length};
 ghost use Rattle.model.specs.Bytes.{part, splice};
 ghost use Rattle.model.specs.Figure.{figureBytes};
-ghost use Rattle.model.specs.Layout.{readRecord, layRecord, putChanges};
-ghost use Rattle.codec.specs.Parts.{phasePart, collectedPart, startedPart};
+ghost use Rattle.model.specs.Layout.{readRecord, layRecord, putChanges, stepsIs};
+ghost use Rattle.codec.specs.Parts.{stepsRead, phasePart, collectedPart, startedPart};
 use crate::cells::put_cell;
 use figures::figure_at;
 use figures::figure_bytes;
+use figures::pairs::pair_at;
+use figures::pairs::pair_bytes;
 use model::Record;
 
 pub fn record_at(s: &[u8], at: usize) -> Record
@@ -26,6 +29,7 @@ pub fn record_at(s: &[u8], at: usize) -> Record
         proposal: figure_at(s, at + 8),
         carried: figure_at(s, at + 12),
         best: figure_at(s, at + 16),
+        steps: pair_at(s, at + 20),
     }
 }
 
@@ -37,6 +41,7 @@ pub fn put_record(board: &mut [u8], at: usize, r: Record)
     let v = figure_bytes(r.proposal);
     let x = figure_bytes(r.carried);
     let y = figure_bytes(r.best);
+    let k = pair_bytes(r.steps);
     put_cell(
         board,
         at,
@@ -56,7 +61,7 @@ pub fn put_record(board: &mut [u8], at: usize, r: Record)
         at + 8,
         [v[0], v[1], v[2], v[3], x[0], x[1], x[2], x[3]],
     );
-    put_cell(board, at + 16, [y[0], y[1], y[2], y[3], 0, 0, 0, 0]);
+    put_cell(board, at + 16, [y[0], y[1], y[2], y[3], k[0], k[1], 0, 0]);
 }
 
 // Stored byte by byte, which compiles to one store; an array that is copied would be put together by shifts.
@@ -71,7 +76,18 @@ fn put_figure(board: &mut [u8], at: usize, v: i32)
     board[at + 3] = f[3];
 }
 
-// Three parts of a record, each put where the rest of the record stands already.
+// One more in the steps, where the rest of the record stands already. They are read here and not handed over, so that no
+// register holds them while a step goes on.
+pub fn count_step(board: &mut [u8], at: usize)
+    requires { ⌜ (at + 24 ≤ length (now board)) × (stepsRead at (now board) < 65535) ⌝ }
+    ensures { λ _. ⌜ now (board .exit) ≡ putChanges (stepsIs (stepsRead at (now (board .entry)) + 1) ∷ []) at (now (board .entry)) ⌝ }
+{
+    let k = pair_bytes(pair_at(board, at + 20) + 1);
+    board[at + 20] = k[0];
+    board[at + 21] = k[1];
+}
+
+// Three parts of a record, each put where the rest of it stands already.
 pub fn put_phase(board: &mut [u8], at: usize, r: Record)
     requires { ⌜ at + 24 ≤ length (now board) ⌝ }
     ensures { λ _. ⌜ now (board .exit) ≡ putChanges (phasePart r) at (now (board .entry)) ⌝ }

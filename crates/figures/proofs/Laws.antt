@@ -2,3 +2,4 @@
 pub mod Order
 pub mod Signs
 pub mod Zeros
+pub mod Pairs

@@ -4,6 +4,7 @@ pub mod Single
 pub mod WholeSteps
 pub mod SettledAgain
 pub mod Lists
+pub mod StepCount
 pub mod RunCalls
 pub mod Along
 pub mod History

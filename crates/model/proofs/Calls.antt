@@ -8,4 +8,5 @@ pub mod Local
 pub mod Runs
 pub mod Rounds
 pub mod Accepted
+pub mod StepsTaken
 pub mod Claims

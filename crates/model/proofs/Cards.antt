@@ -20,7 +20,8 @@ use Rattle.model.specs.Sound.{headSound, registerSound, arraySound, regi
 use Rattle.model.specs.Sound.{positionInside, islandInside}
 use Rattle.model.specs.Sound.{bestInside, flagKnown, restZero, idleZero, collectZero, bestIslandZero, bestZero}
 use Rattle.model.specs.Sound.{seenKnown, sameRegister}
-use Rattle.model.specs.Sound.{ownWritten, ownSeen, ownPassed, fieldsSound, recordSound, sound}
+use Rattle.model.specs.Sound.{ownWritten, ownSeen, ownPassed, turnsBefore, presentPass, islandOf, mostSteps}
+use Rattle.model.specs.Sound.{stepsKept, fieldsSound, recordSound, sound}
 use Rattle.model.specs.Calls.{unless, ranges, shapeRefusal, stations, islands, boardRefusal, stationRefusal}
 use Rattle.model.specs.Calls.{stationAt}
 use Rattle.model.specs.Calls.{unlessRefused, lay, putRecord}
@@ -70,7 +71,8 @@ unfolding ShutOut AllDiffer rows at same different taken movedBy by listing endi
     registerValue seenNumber bestIsland bestFigure seenOf writePhase flagByte readRecord layRecord fields recordFields
     changed recordValue writingOf readingOf ofPhase registerOf recordOf stationOf headSound registerSound arraySound
     registersSound collecting phaseKnown positionInside islandInside bestInside flagKnown restZero idleZero
-    collectZero bestIslandZero bestZero seenKnown sameRegister ownWritten ownSeen ownPassed fieldsSound recordSound
-    sound unless ranges shapeRefusal stations islands boardRefusal stationRefusal stationAt unlessRefused lay
+    collectZero bestIslandZero bestZero seenKnown sameRegister ownWritten ownSeen ownPassed turnsBefore presentPass
+    islandOf mostSteps stepsKept fieldsSound recordSound sound unless ranges shapeRefusal stations islands
+    boardRefusal stationRefusal stationAt unlessRefused lay
     putRecord putRegister notIdle propose notGoing access stepped stepOn step ranFrom run
 shut-out = (all-differ (8 ∷ 8 ∷ 60 ∷ 104 ∷ 88 ∷ 112 ∷ 112 ∷ 164 ∷ 178 ∷ 93 ∷ 93 ∷ []) rows tt, unlike taken _ _ refl)

@@ -11,3 +11,4 @@ pub mod Demand3
 pub mod Sheet
 pub mod Starred
 pub mod Cards
+pub mod StepBounds

@@ -9,5 +9,6 @@ pub mod Page
 pub mod Rows
 pub mod OneRead
 pub mod Moves
+pub mod MostSteps
 pub mod Tells
 pub mod Going

@@ -10,5 +10,6 @@ pub mod Printed
 pub mod PlayedLines
 pub mod EachForm
 pub mod ListOfCalls
+pub mod StepsOfLines
 pub mod Fits
 pub mod Limits

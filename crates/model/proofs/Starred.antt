@@ -16,7 +16,8 @@ use Rattle.model.specs.Sound.{headSound, registerSound, arraySound, regi
 use Rattle.model.specs.Sound.{positionInside, islandInside}
 use Rattle.model.specs.Sound.{bestInside, flagKnown, restZero, idleZero, collectZero, bestIslandZero, bestZero}
 use Rattle.model.specs.Sound.{seenKnown, sameRegister}
-use Rattle.model.specs.Sound.{ownWritten, ownSeen, ownPassed, fieldsSound, recordSound, sound}
+use Rattle.model.specs.Sound.{ownWritten, ownSeen, ownPassed, turnsBefore, presentPass, islandOf, mostSteps}
+use Rattle.model.specs.Sound.{stepsKept, fieldsSound, recordSound, sound}
 use Rattle.model.specs.Calls.{unless, ranges, shapeRefusal, stations, islands, boardRefusal, stationRefusal}
 use Rattle.model.specs.Calls.{stationAt, unlessRefused, lay, putRecord}
 use Rattle.model.specs.Calls.{putRegister, notIdle, propose, notGoing, access, stepped, stepOn, step, ranFrom}
@@ -44,7 +45,8 @@ unfolding Starred Holds rows sheet asLines layIn number digits part splice zeros
     fields recordFields changed recordValue writingOf readingOf ofPhase registerOf recordOf stationOf headSound
     registerSound arraySound registersSound collecting phaseKnown positionInside islandInside bestInside flagKnown
     restZero idleZero collectZero bestIslandZero bestZero seenKnown sameRegister ownWritten ownSeen ownPassed
-    fieldsSound recordSound sound unless shapeRefusal stations islands boardRefusal stationRefusal stationAt
+    turnsBefore presentPass islandOf mostSteps stepsKept fieldsSound recordSound sound unless shapeRefusal stations
+    islands boardRefusal stationRefusal stationAt
     unlessRefused lay putRecord putRegister notIdle propose notGoing access stepped stepOn step ranFrom run textFrom
     text decimalIn decimal signed worded standingText standingOf status statuses shownLine shownAs show repeated
     expandItem expand found andThen spaced digit digitsFrom natural numberIn figureIn behind timesIn itemIn itemsIn

@@ -9,7 +9,7 @@ use Rattle.model.specs.Figure.{Figure, figures}
 use Rattle.model.specs.Listing.{Register, Stage, writing, reading, has-decided, is-spent, Station, idle, active}
 use Rattle.model.specs.Listing.{Answer, refused, accepted, Array, placeArray, placeColumn, proposed, Move, move}
 use Rattle.model.specs.Layout.{boardLength, registerAt, recordAt, freshBoard, layRegister, registerFields}
-use Rattle.model.specs.Layout.{layRecord, recordFields, registerOf, fieldsOf, stationOf}
+use Rattle.model.specs.Layout.{layRecord, recordFields, withSteps, registerOf, fieldsOf, stationOf}
 use Rattle.model.specs.Sound.{sound}
 
 -- What a call answers, and the bytes of the lent board as it returns.
@@ -63,6 +63,10 @@ stationRefusal i b later = unless (leb 1 i && leb i (stations b)) 12 later
 unfoldable pub stationAt : ℕ → List ℕ → Station Figure
 stationAt i b = stationOf (stations b) (islands b) (i - 1) b
 
+-- and the steps that it says the station has taken
+unfoldable pub stepsTaken : (i : ℕ) → List ℕ → ℕ
+stepsTaken i b = fieldsOf (stations b) (islands b) (i - 1) b .steps
+
 -- an accepted call's answer and bytes; "a refusal .. changes no byte"
 unfoldable pub unlessRefused : {A : Type 0} → Refusal → (ℕ → A) → List ℕ → After A → After A
 unlessRefused none turnDown b ok = ok
@@ -85,9 +89,9 @@ unfoldable pub notIdle : Station Figure → Refusal
 notIdle idle = none
 notIdle (active v s) = some 13
 
--- a proposal of the station with index j
+-- a proposal of the station with index j; its steps are counted from here
 abbrev pub putProposal : (n K j : ℕ) → Figure → List ℕ → List ℕ
-putProposal n K j v b = putRecord n K j (recordFields (proposed v) (fieldsOf n K j b)) b
+putProposal n K j v b = putRecord n K j (recordFields (proposed v) (withSteps 0 (fieldsOf n K j b))) b
 
 -- "A proposal sets an idle station to phase 1", after the board's refusals, 12 and 13.
 unfoldable pub propose : (i : ℕ) → Figure → List ℕ → After Refusal
@@ -103,9 +107,10 @@ notGoing (active v (reading t c x p a)) = none
 notGoing (active v (has-decided c x)) = some 15
 notGoing (active v (is-spent c x)) = some 16
 
--- the record of station index j, with proposal v, that an accepted step brings to stage s
+-- the record of station index j, with proposal v, that an accepted step brings to stage s: "the station's own accepted
+-- steps since its proposal" are one more
 abbrev pub steppedRecord : (n K j : ℕ) → Figure → Stage Figure → List ℕ → Record
-steppedRecord n K j v s b = recordFields (active v s) (fieldsOf n K j b)
+steppedRecord n K j v s b = let f = fieldsOf n K j b in recordFields (active v s) (withSteps (f .steps + 1) f)
 
 -- what a move m of the station with index j, proposal v and stage s answers and leaves
 abbrev pub putMove : (n K j : ℕ) → Figure → Stage Figure → Move Figure → List ℕ → After (Answer Figure)

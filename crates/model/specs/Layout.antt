@@ -3,7 +3,7 @@
 use Rattle.model.specs.Kit.{cond, List, [], _∷_, _++_, ℕ, zero, suc, _+_, _*_, _-_, eqb, replicate, pos}
 use Rattle.model.specs.declared.Record.{Record}
 use Rattle.model.specs.declared.Register as Fields
-use Rattle.model.specs.Bytes.{byte, part, splice}
+use Rattle.model.specs.Bytes.{byte, number, digits, part, splice}
 use Rattle.model.specs.Figure.{Figure, figure, figureBytes}
 use Rattle.model.specs.Listing.{Turn, turnM, turnA, turnB, first, second, third, Array, inM, inA, inB, Register}
 use Rattle.model.specs.Listing.{empty, filled, Seen, nothing, seen, writing, reading, has-decided, is-spent}
@@ -83,18 +83,34 @@ flagByte turnA = 0
 flagByte (turnB f) = flagNumber f
 
 -- a record by its fields, in the order of its bytes
-abbrev pub asRecord : (phase position island seen highest flag : ℕ) (proposal carried best : Figure) → Record
-asRecord h p c g k f v x y =
-    record { phase = h; position = p; island = c; seen = g; highest = k; flag = f; proposal = v; carried = x; best = y }
+abbrev pub asRecord : (phase position island seen highest flag : ℕ) (proposal carried best : Figure) (steps : ℕ)
+    → Record
+asRecord h p c g k f v x y s = record {
+  phase = h;
+  position = p;
+  island = c;
+  seen = g;
+  highest = k;
+  flag = f;
+  proposal = v;
+  carried = x;
+  best = y;
+  steps = s;
+}
+
+-- where the steps stand among its bytes
+abbrev pub stepsAt : ℕ
+stepsAt = 20
 
 -- "A record: byte 0 phase; 1 next position to read; 2 island c; 3 seen; 4 best island; 5 flag to write; 6–7 zero; 8–11
--- proposal; 12–15 carried figure; 16–19 best figure; 20–23 zero."
+-- proposal; 12–15 carried figure; 16–19 best figure"; 02: "bytes 20–21 hold the station's own accepted steps since its
+-- proposal"; of 01's "20–23 zero" the bytes 22–23 are left
 unfoldable pub readRecord : List ℕ → Record
 readRecord r =
     asRecord (byte r 0) (byte r 1) (byte r 2) (byte r 3) (byte r 4) (byte r 5)
-    (figure (part 8 4 r)) (figure (part 12 4 r)) (figure (part 16 4 r))
+    (figure (part 8 4 r)) (figure (part 12 4 r)) (figure (part 16 4 r)) (number (part stepsAt 2 r))
 
--- the bytes without a field: where they begin and how many they are, "6–7 zero" and "20–23 zero"
+-- the bytes without a field: where they begin and how many they are, "6–7 zero" and 22–23 zero
 abbrev pub gapAt : ℕ
 gapAt = 6
 
@@ -102,26 +118,30 @@ abbrev pub gap : ℕ
 gap = 2
 
 abbrev pub tailAt : ℕ
-tailAt = 20
+tailAt = 22
 
 abbrev pub tail : ℕ
-tail = 4
+tail = 2
 
 -- and the bytes of such fields
 unfoldable pub layRecord : Record → List ℕ
 layRecord f =
     (f .phase ∷ f .position ∷ f .island ∷ f .seen ∷ f .highest ∷ f .flag ∷ 0 ∷ 0 ∷ [])
-    ++ figureBytes (f .proposal) ++ figureBytes (f .carried) ++ figureBytes (f .best) ++ replicate tail 0
+    ++ figureBytes (f .proposal) ++ figureBytes (f .carried) ++ figureBytes (f .best)
+    ++ digits 2 (f .steps) ++ replicate tail 0
 
 -- One field of a record with the value that it comes to have.
 pub data Change : Type 0 where
   phaseIs positionIs islandIs seenIs highestIs flagIs : ℕ → Change
   proposalIs carriedIs bestIs : Figure → Change
+  stepsIs : ℕ → Change
 
--- Where it stands among the record's bytes, as laid above: a byte, or a figure's four bytes, at an offset.
+-- Where it stands among the record's bytes, as laid above: a byte, a figure's four bytes, or a number's two, at an
+-- offset.
 pub data Stored : Type 0 where
   byteAt : (offset value : ℕ) → Stored
   figureAt : (offset : ℕ) → Figure → Stored
+  pairAt : (offset value : ℕ) → Stored
 
 abbrev pub stored : Change → Stored
 stored (phaseIs h) = byteAt 0 h
@@ -133,15 +153,23 @@ stored (flagIs f) = byteAt 5 f
 stored (proposalIs v) = figureAt 8 v
 stored (carriedIs x) = figureAt 12 x
 stored (bestIs y) = figureAt 16 y
+stored (stepsIs k) = pairAt stepsAt k
 
 -- what the field at an offset holds afterwards, which held x before
 abbrev pub byteAfter : Stored → (offset x : ℕ) → ℕ
 byteAfter (byteAt k y) at x = cond (eqb k at) y x
 byteAfter (figureAt k y) at x = x
+byteAfter (pairAt k y) at x = x
 
 abbrev pub figureAfter : Stored → (offset : ℕ) (x : Figure) → Figure
 figureAfter (byteAt k y) at x = x
 figureAfter (figureAt k y) at x = cond (eqb k at) y x
+figureAfter (pairAt k y) at x = x
+
+abbrev pub pairAfter : Stored → (offset x : ℕ) → ℕ
+pairAfter (byteAt k y) at x = x
+pairAfter (figureAt k y) at x = x
+pairAfter (pairAt k y) at x = cond (eqb k at) y x
 
 -- A record with some of its fields changed, one change after another; every other field is as it was.
 abbrev pub change : Stored → Record → Record
@@ -149,6 +177,7 @@ change s f =
     asRecord (byteAfter s 0 (f .phase)) (byteAfter s 1 (f .position)) (byteAfter s 2 (f .island))
     (byteAfter s 3 (f .seen)) (byteAfter s 4 (f .highest)) (byteAfter s 5 (f .flag))
     (figureAfter s 8 (f .proposal)) (figureAfter s 12 (f .carried)) (figureAfter s 16 (f .best))
+    (pairAfter s stepsAt (f .steps))
 
 unfoldable pub changed : List Change → Record → Record
 changed [] f = f
@@ -158,6 +187,7 @@ changed (c ∷ cs) f = changed cs (change (stored c) f)
 abbrev pub store : Stored → (at : ℕ) → List ℕ → List ℕ
 store (byteAt k x) at b = splice (at + k) (x ∷ []) b
 store (figureAt k v) at b = splice (at + k) (figureBytes v) b
+store (pairAt k x) at b = splice (at + k) (digits 2 x) b
 
 unfoldable pub putChanges : List Change → (at : ℕ) → List ℕ → List ℕ
 putChanges [] at b = b
@@ -171,6 +201,10 @@ fields phase p c a flag v x f =
     (phaseIs phase ∷ positionIs p ∷ islandIs c ∷ seenIs (seenNumber a) ∷ highestIs (bestIsland a) ∷ flagIs flag
     ∷ proposalIs v ∷ carriedIs x ∷ bestIs (bestFigure a) ∷ [])
     f
+
+-- the record f with this number of steps
+abbrev pub withSteps : ℕ → Record → Record
+withSteps k f = changed (stepsIs k ∷ []) f
 
 -- "Idle is all zero."
 unfoldable pub recordFields : Station Figure → Record → Record

@@ -20,5 +20,7 @@ pub mod Sheet
 pub mod Edges
 pub mod AnyList
 pub mod SheetList
+pub mod StepCount
 pub mod Starred
 pub mod Cards
+pub mod StepBounds

@@ -1,11 +1,11 @@
 -- Soundness: 01's clauses on the bytes of a board, each a named test, in 01's order and with its words.
 -- Relies on the layout and the listing's values; the calls rely on it.
-use Rattle.model.specs.Kit.{Bool, true, false, not, _&&_, _||_, cond, List, ℕ, eqb, leb, ltb}
+use Rattle.model.specs.Kit.{Bool, true, false, not, _&&_, _||_, cond, List, ℕ, _+_, _*_, eqb, leb, ltb}
 use Rattle.model.specs.Bytes.{byte, part, zeros, every, implies}
 use Rattle.model.specs.Figure.{Figure, figures, sameFigure}
-use Rattle.model.specs.Listing.{Turn, turnM, turnA, turnB, Seen, nothing, seen, Register, empty, filled, writing}
-use Rattle.model.specs.Listing.{reading, has-decided, is-spent, Station, idle, active, Array, inM, inA, inB}
-use Rattle.model.specs.Listing.{array, entry, pairAbove, flagNumber}
+use Rattle.model.specs.Listing.{Turn, turnM, turnA, turnB, Seen, nothing, seen, Register, empty, filled, Stage}
+use Rattle.model.specs.Listing.{writing, reading, has-decided, is-spent, Station, idle, active, Array, inM, inA}
+use Rattle.model.specs.Listing.{inB, array, entry, pairAbove, flagNumber}
 use Rattle.model.specs.Layout.{registerAt, registerOf, recordOf, readRecord, recordValue, gapAt, gap}
 use Rattle.model.specs.Layout.{tailAt, tail}
 
@@ -52,7 +52,7 @@ module _ (phase : ℕ) (r : List ℕ) where
   unfoldable pub flagKnown : Bool
   flagKnown = cond (eqb phase 5 || eqb phase 6) (eqb (byte r 5) 1 || eqb (byte r 5) 2) (eqb (byte r 5) 0)
 
-  -- "6–7 zero", "20–23 zero"
+  -- "6–7 zero", and of "20–23 zero" the bytes that are left, 22–23
   unfoldable pub restZero : Bool
   restZero = zeros (part gapAt gap r) && zeros (part tailAt tail r)
 
@@ -107,6 +107,34 @@ ownSeen (turnB f) c x (seen g k y) = true
 unfoldable pub ownPassed : (i : ℕ) → Station Figure → Bool
 ownPassed i s = whileReading (λ t c x p a. implies (ltb i p) (ownSeen t c x a)) s
 
+-- 02: "the steps of its present pass (a whole one, 3(n + 1), once decided or spent)". A turn is n + 1 steps: its write
+-- and n reads. A pass at its phase has the turns before this one behind it, and in a collect the write and the reads
+-- before its position.
+unfoldable pub turnsBefore : Turn → ℕ
+turnsBefore turnM = 0
+turnsBefore turnA = 1
+turnsBefore (turnB f) = 2
+
+unfoldable pub presentPass : (n : ℕ) → Stage Figure → ℕ
+presentPass n (writing t c x) = turnsBefore t * (n + 1)
+presentPass n (reading t c x p a) = turnsBefore t * (n + 1) + 1 + p
+presentPass n (has-decided c x) = 3 * (n + 1)
+presentPass n (is-spent c x) = 3 * (n + 1)
+
+unfoldable pub islandOf : Stage Figure → ℕ
+islandOf (writing t c x) = c
+islandOf (reading t c x p a) = c
+islandOf (has-decided c x) = c
+islandOf (is-spent c x) = c
+
+-- 02: "at most 3(n + 1) × c plus the steps of its present pass"; an idle station has taken none
+unfoldable pub mostSteps : (n : ℕ) → Station Figure → ℕ
+mostSteps n idle = 0
+mostSteps n (active v s) = 3 * (n + 1) * islandOf s + presentPass n s
+
+unfoldable pub stepsKept : (n steps : ℕ) → Station Figure → Bool
+stepsKept n steps s = leb steps (mostSteps n s)
+
 -- all clauses on a record alone
 unfoldable pub fieldsSound : (n K phase : ℕ) → List ℕ → Bool
 fieldsSound n K phase r =
@@ -115,10 +143,12 @@ fieldsSound n K phase r =
     && restZero phase r && idleZero phase r && collectZero phase r && bestIslandZero phase r && bestZero phase r
     && seenKnown phase r
 
--- and on its station's own register
+-- and on its station's own register and steps
 unfoldable pub recordSound : (n K i : ℕ) → (b r : List ℕ) → Bool
 recordSound n K i b r =
-    let s = recordValue (readRecord r) in fieldsSound n K (byte r 0) r && ownWritten n i b s && ownPassed i s
+    let f = readRecord r in
+    let s = recordValue f in
+    fieldsSound n K (byte r 0) r && ownWritten n i b s && ownPassed i s && stepsKept n (f .steps) s
 
 -- "A board that keeps all this is sound"; n and K are its own and its length fits them.
 unfoldable pub sound : (n K : ℕ) → List ℕ → Bool

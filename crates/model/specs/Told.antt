@@ -49,7 +49,7 @@ unfoldable pub roundsTold : RoundsVerdict → RoundsAnswer
 roundsTold (byRound.Played r d) = played r d
 roundsTold (byRound.Refused k) = notPlayed k
 
--- how a station stands, and that or the refusal's number
+-- how a station stands, and that with its steps or the refusal's number
 unfoldable pub standingTold : standings.Standing → Standing
 standingTold standing.Idle = stands-idle
 standingTold (standing.Going c v) = stands-going c v
@@ -57,7 +57,7 @@ standingTold (standing.Decided c v) = stands-decided c v
 standingTold (standing.Spent c v) = stands-spent c v
 
 unfoldable pub standingAnswered : answers.StandingAnswer → StandingAnswer
-standingAnswered (answer.Stands s) = stands (standingTold s)
+standingAnswered (answer.Stands s k) = stands (standingTold s) k
 standingAnswered (answer.Refused k) = notTold k
 
 -- "by value as 512 bytes, zeros after the line, and its length"

@@ -21,6 +21,7 @@ pub struct Record {
     pub proposal: i32,
     pub carried: i32,
     pub best: i32,
+    pub steps: u16,
 }
 
 // What a step answers: "its kind and fields". A flag is 1 for adopt and 2 for commit.
@@ -62,9 +63,9 @@ pub enum Standing {
     Spent { island: u8, figure: i32 },
 }
 
-// What the call for one station answers: how it stands, or the refusal's number.
+// What the call for one station answers: how it stands and the steps it has taken, or the refusal's number.
 pub enum StandingAnswer {
-    Stands { standing: Standing },
+    Stands { standing: Standing, steps: u16 },
     Refused { number: u8 },
 }
 

@@ -8,12 +8,14 @@ use Rattle.model.specs.declared.RunVerdict.{RunVerdict}
 use Rattle.model.specs.declared.RunVerdict.the-variants.{Ran, Refused}
 use Rattle.model.specs.declared.RoundsVerdict.{RoundsVerdict}
 use Rattle.model.specs.declared.RoundsVerdict.the-variants as byRound
+use Rattle.model.specs.declared.StandingAnswer as told
+use Rattle.model.specs.declared.StandingAnswer.the-variants as byCall
 use Rattle.model.specs.Figure.{Figure}
 use Rattle.model.specs.Listing.{Answer, wrote, read, went, marked, adopted, decided, spent, refused}
 use Rattle.model.specs.Calls.{Refusal, RunAnswer, ran, notRun}
 use Rattle.model.specs.Rounds.{RoundsAnswer, played, notPlayed}
-use Rattle.model.specs.Standing.{stands-idle, stands-going, stands-decided, stands-spent, StandingAnswer, stands}
-use Rattle.model.specs.Standing.{notTold}
+use Rattle.model.specs.Standing.{Standing, stands-idle, stands-going, stands-decided, stands-spent}
+use Rattle.model.specs.Standing.{StandingAnswer, stands, notTold}
 
 -- a figure's 32 bits of two's complement, as a number
 unfoldable pub bits : Figure → ℕ
@@ -63,15 +65,24 @@ unfoldable pub packRounds : RoundsAnswer → ℕ
 packRounds (played r d) = d * 256 + r * 65536
 packRounds (notPlayed k) = k
 
--- of a station, bits 8 to 11 are how it stands, 12 to 19 the island; 20 to 31 are kept free
+-- of a station, bits 8 to 11 are how it stands, 12 to 19 the island
 abbrev pub packedStanding : (number kind island figure : ℕ) → ℕ
 packedStanding = packedAt 4096
 
+unfoldable pub standingPart : Standing → ℕ
+standingPart stands-idle = packedStanding 0 1 0 0
+standingPart (stands-going c v) = packedStanding 0 2 c (bits v)
+standingPart (stands-decided c v) = packedStanding 0 3 c (bits v)
+standingPart (stands-spent c v) = packedStanding 0 4 c (bits v)
+
+-- a station's steps have room in their bits
+unfoldable pub FewSteps : told.StandingAnswer → Type 0
+FewSteps (byCall.Stands s k) = k ≤ 4095
+FewSteps (byCall.Refused k) = Unit {0}
+
+-- and 20 to 31 its steps
 unfoldable pub packStanding : StandingAnswer → ℕ
-packStanding (stands stands-idle) = packedStanding 0 1 0 0
-packStanding (stands (stands-going c v)) = packedStanding 0 2 c (bits v)
-packStanding (stands (stands-decided c v)) = packedStanding 0 3 c (bits v)
-packStanding (stands (stands-spent c v)) = packedStanding 0 4 c (bits v)
+packStanding (stands s k) = standingPart s + k * 1048576
 packStanding (notTold k) = packedStanding k 0 0 0
 
 -- bits 0 to 31 where a word starts in its line, behind the bracket, 32 to 63 its length; 0 for no word

@@ -2,10 +2,9 @@
 // Relies on a figure's bits; the calls for C rely on it.
 ghost use mathlib.Core.Path.{_≡_};
 ghost use Prim.Native.Nat.{_≤_};
-ghost use Rattle.model.specs.Standing.{stands};
 ghost use Rattle.model.specs.Told.{told, verdict, runTold, roundsTold, standingTold, standingAnswered};
 ghost use Rattle.packing.specs.Packing.{bits, packedAt, packVerdict, packStep, packRun, packRounds, packStanding};
-ghost use Rattle.packing.specs.Packing.{packWord, Few, FewRounds};
+ghost use Rattle.packing.specs.Packing.{packWord, standingPart, Few, FewRounds, FewSteps};
 use figures::bits_of;
 use model::RoundsVerdict;
 use model::RunVerdict;
@@ -72,8 +71,9 @@ pub fn rounds_number(answer: RoundsVerdict) -> u64
     }
 }
 
+// Beside the steps, which have twelve bits; so their sum does not wrap.
 fn stands_number(standing: Standing) -> u64
-    ensures { λ r. ⌜ r ≡ packStanding (stands (standingTold standing)) ⌝ }
+    ensures { λ r. ⌜ (r ≡ standingPart (standingTold standing)) × (r ≤ 18446744069415632895) ⌝ }
 {
     match standing {
         Standing::Idle => 256,
@@ -84,11 +84,13 @@ fn stands_number(standing: Standing) -> u64
 }
 
 pub fn standing_number(answer: StandingAnswer) -> u64
+    requires { ⌜ FewSteps answer ⌝ }
     ensures { λ r. ⌜ r ≡ packStanding (standingAnswered answer) ⌝ }
 {
     match answer {
         StandingAnswer::Refused { number } => number as u64,
-        StandingAnswer::Stands { standing } => stands_number(standing),
+        StandingAnswer::Stands { standing, steps } => stands_number(standing)
+            + steps as u64 * 1048576,
     }
 }
 

@@ -1,6 +1,6 @@
 // A record's fields as numbers, clause by clause in the order of model/specs/Sound.antt. Each clause is stated of the bytes
 // that the layout gives the fields; that the other bytes are zero is tested where the bytes are read, in records.
-// Relies on the layout; records rely on it.
+// Relies on the layout; steps and records rely on it.
 ghost use mathlib.Core.Path.{_≡_};
 ghost use mathlib.Core.Bool.{_||_};
 ghost use lib.Dec.{eqb};
@@ -91,10 +91,13 @@ fn idle_sound(f: Record) -> bool
     if f.carried != 0 {
         return false;
     }
-    f.best == 0
+    if f.best != 0 {
+        return false;
+    }
+    f.steps == 0
 }
 
-fn is_collecting(f: Record) -> bool
+pub fn is_collecting(f: Record) -> bool
     ensures { λ r. ⌜ r ≡ laid collecting f ⌝ }
 {
     if f.phase == READ_M {

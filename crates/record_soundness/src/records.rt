@@ -1,5 +1,5 @@
-// The records of a board: each one's fields, and its own register.
-// Relies on fields, own and codec's records; the board's test relies on it.
+// The records of a board: each one's fields, its steps, and its own register.
+// Relies on fields, steps, own and codec's records; the board's test relies on it.
 ghost use mathlib.Core.Path.{_≡_};
 ghost use Prim.Native.Nat.{_+_, _≤_, _<_};
 ghost use lib.ListN.{length};
@@ -8,10 +8,10 @@ ghost use Rattle.model.specs.Layout.{boardLength, recordAt, recordOf};
 ghost use Rattle.model.specs.Sound.{recordSound};
 use crate::fields::fields_sound;
 use crate::own::own_sound;
+use crate::steps::steps_sound;
 use codec::places::record_offset;
 use codec::records::record_at;
 use figures::zeros::zero_pair;
-use figures::zeros::zero_word;
 
 fn record_sound(s: &[u8], at: usize, n: usize, k: usize, i: usize) -> bool
     requires { ⌜ (length (now s) ≡ boardLength n k) × (n ≤ 16) × (k ≤ 64) × (i < n) × (at ≡ recordAt n k i) ⌝ }
@@ -20,11 +20,14 @@ fn record_sound(s: &[u8], at: usize, n: usize, k: usize, i: usize) -> bool
     if !zero_pair(s, at + 6) {
         return false;
     }
-    if !zero_word(s, at + 20) {
+    if !zero_pair(s, at + 22) {
         return false;
     }
     let f = record_at(s, at);
     if !fields_sound(f, n, k) {
+        return false;
+    }
+    if !steps_sound(f, n) {
         return false;
     }
     own_sound(s, n, k, i, f)

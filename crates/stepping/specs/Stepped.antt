@@ -9,10 +9,10 @@ use lib.ListN.{length, getD}
 use Rattle.model.specs.declared.Record.{Record}
 use Rattle.model.specs.declared.StepAnswer.{StepAnswer}
 use Rattle.model.specs.Bytes.{part}
-use Rattle.model.specs.Figure.{Figure}
-use Rattle.model.specs.Listing.{Stage, active, placeArray, placeColumn, accepted}
-use Rattle.model.specs.Layout.{boardLength, registerAt, recordAt, readRecord, layRecord, recordValue}
-use Rattle.model.specs.Calls.{boardRefusal, access, stepOn}
+use Rattle.model.specs.Figure.{Figure, figures}
+use Rattle.model.specs.Listing.{Stage, active, placeArray, placeColumn, accepted, Move, move}
+use Rattle.model.specs.Layout.{boardLength, registerAt, recordAt, layRecord, recordFields, recordValue, registerOf}
+use Rattle.model.specs.Calls.{putRecord, putRegister, boardRefusal, stepOn}
 use Rattle.model.specs.Told.{told}
 use Rattle.model.specs.Runs.{taken, answers, after}
 use Rattle.soundness.specs.Placed.{On}
@@ -22,11 +22,17 @@ unfoldable pub Touches : (n j : ℕ) (f : Record) (r : ℕ) → Type 0
 Touches n j f r =
     (s : Stage Figure) → recordValue f ≡ active (f .proposal) s → r ≡ registerAt n (placeArray s) (placeColumn j s)
 
--- the answer r and the bytes d of an accepted step of station index j on the board b
+-- the listing's move of station index j, at stage s, over the one register that it touches on the board b
+abbrev pub moveOn : (n K j : ℕ) → Stage Figure → List ℕ → Move Figure
+moveOn n K j s b = move figures n K s (registerOf n (placeArray s) (placeColumn j s) b)
+
+-- the answer r and the bytes d that this move gives: its register, and its record, in which the steps are as they were
 unfoldable pub Accesses : (n K j : ℕ) (f : Record) (b : List ℕ) (r : StepAnswer) (d : List ℕ) → Type 0
 Accesses n K j f b r d =
-    (s : Stage Figure) → recordValue f ≡ active (f .proposal) s
-    → (told r ≡ access n K j (f .proposal) s b .answer) × (d ≡ access n K j (f .proposal) s b .bytes)
+    (s : Stage Figure) → recordValue f ≡ active (f .proposal) s → let m = moveOn n K j s b in
+    (told r ≡ m .answer)
+    × (d ≡ putRecord n K j (recordFields (active (f .proposal) (m .stage)) f)
+    (putRegister n (placeArray s) j (m .written) b))
 
 -- the size of a board and a station index on it
 pub record OnSize (n K j : ℕ) (b : List ℕ) : Type 0 where
@@ -38,7 +44,6 @@ pub record OnSize (n K j : ℕ) (b : List ℕ) : Type 0 where
 -- the record f of station index j stands at the offset `at` of the board b
 pub record Stands (n K j at : ℕ) (f : Record) (b : List ℕ) : Type 0 where
   pub place : at ≡ recordAt n K j
-  pub read : f ≡ readRecord (part at 24 b)
   pub laid : part at 24 b ≡ layRecord f
 
 -- the station with index j has its record at `at`, on a sound board b whose head says n and K

@@ -5,6 +5,7 @@ ghost use lib.ListN.{getD};
 ghost use Rattle.archipelago.specs.Advanced.{Ready};
 ghost use Rattle.stepping.specs.Stepped.{Touches, Accesses, OnSize, Stands, Known, StepsOn};
 use codec::places::register_offset;
+use codec::records::count_step;
 use codec::records::put_collected;
 use codec::records::put_phase;
 use codec::records::put_started;
@@ -47,9 +48,9 @@ fn touched(n: u8, k: u8, j: usize, station: Record) -> usize
     register_offset(stations, 2 + 2 * island, next)
 }
 
-// An accepted step of the station with index j, whose record at `at` has been read. Only what the move changed is put
-// back: after a write the phase, in the middle of a collect what it has seen, and at its end, where the station is at
-// position 0 again, all but the proposal. The other bytes of the record stand already.
+// The access of the station with index j, whose record at `at` has been read. Only what the move changed is put back: after
+// a write the phase, in the middle of a collect what it has seen, and at its end, where the station is at position 0 again,
+// all but the proposal and the steps. The other bytes of the record stand already.
 fn access(board: &mut [u8], n: u8, k: u8, j: usize, at: usize, station: Record) -> StepAnswer
     requires { ⌜ Ready n k station × OnSize n k j (now board) × Stands n k j at station (now board) ⌝ }
     ensures { λ r. ⌜ Accesses n k j station (now (board .entry)) r (now (board .exit)) ⌝ }
@@ -69,12 +70,15 @@ fn access(board: &mut [u8], n: u8, k: u8, j: usize, at: usize, station: Record) 
     moved.answer
 }
 
-// One step of a station that goes on, by its place. The record is read here: several functions call this one, so that it
-// stays a call, and a record handed over would go through memory.
+// One step of a station that goes on, by its place: its access, whatever kind it is of, and one more in its steps. The
+// record is read here: several functions call this one, so that it stays a call, and a record handed over would go through
+// memory. A sound board has room for one step more, so the sum cannot wrap.
 pub fn step_going(board: &mut [u8], n: u8, k: u8, j: usize, at: usize) -> StepAnswer
     requires { ⌜ Known n k j at (now board) × (1 ≤ getD (now board) at 0) × (getD (now board) at 0 ≤ 6) ⌝ }
     ensures { λ r. ⌜ StepsOn (j + 1) (now (board .entry)) r (now (board .exit)) ⌝ }
 {
     let station = record_at(board, at);
-    access(board, n, k, j, at, station)
+    let answer = access(board, n, k, j, at, station);
+    count_step(board, at);
+    answer
 }

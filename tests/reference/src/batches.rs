@@ -1,9 +1,11 @@
 //! Which calls are compared: every kind of call on fresh, reached, sound, damaged and hostile boards, lists of calls and
-//! long runs. `round_batches` has what is made of rounds alone, `line_batches` the lines of sheets.
+//! long runs. `round_batches` has what is made of rounds alone, `count_batches` what is made of counted steps,
+//! `line_batches` the lines of sheets.
 
 use crate::boards;
 use crate::bytes::length;
 use crate::compare::{Call, Compare};
+use crate::count_batches::SIZES;
 use crate::engine::SHOWN;
 use crate::halts::ROUND_END;
 use crate::lent::{pattern, Lent};
@@ -204,6 +206,7 @@ impl Compare<'_> {
         for part in 0..6 {
             self.sound_board(seed.wrapping_mul(64) + part);
             self.damaged_board(seed.wrapping_mul(64) + 32 + part);
+            self.counted_board(seed.wrapping_mul(64) + 48 + part);
         }
         if seed % 16 == 0 {
             self.lines(seed);
@@ -215,6 +218,8 @@ impl Compare<'_> {
             self.longest_runs(seed);
             self.short_lists(seed);
             self.many_rounds(seed);
+            SIZES.iter().for_each(|size| self.every_tail(seed, *size));
+            self.most_counted(seed);
         }
     }
 }

@@ -3,6 +3,15 @@
 use crate::bytes::{length, Cell, Fields, Record};
 use crate::model::Rows;
 use crate::random::Random;
+use crate::sound::most_steps;
+
+/// Where a station stands; the position to read next counts in a collect only.
+#[derive(Clone, Copy, Debug)]
+pub struct Place {
+    pub phase: u8,
+    pub island: u8,
+    pub next: u8,
+}
 
 /// A board whose every field is drawn within the clauses of soundness, and nothing more.
 pub fn sound(r: &mut Random, n: u8, k: u8) -> Vec<u8> {
@@ -29,10 +38,19 @@ fn drawn(r: &mut Random, n: u8, k: u8, phases: &[u8]) -> Vec<u8> {
     f.a.all.iter_mut().for_each(|c| *c = cell(r, 1, 1));
     f.b.all.iter_mut().for_each(|c| *c = cell(r, 2, 1));
     for who in 0..width {
-        let phase = r.pick(phases);
-        f.records[who] = record(r, who, n, k, phase);
+        let place = place(r, n, k, phases);
+        f.records[who] = record(r, who, k, place);
+        f.records[who].steps = steps(r, most_steps(n, &f.records[who]) as usize);
         own(&mut f, who);
     }
+    f.to_bytes()
+}
+
+/// A sound board on which one station stands at this place and has counted no step.
+pub fn standing_at(r: &mut Random, n: u8, k: u8, who: usize, place: Place) -> Vec<u8> {
+    let mut f = Fields::of_bytes(&sound(r, n, k));
+    f.records[who] = record(r, who, k, place);
+    own(&mut f, who);
     f.to_bytes()
 }
 
@@ -44,18 +62,23 @@ fn cell(r: &mut Random, marks: u8, islands: u8) -> Cell {
     Cell { mark, island: r.below(islands as usize) as u8, zeros: [0; 2], figure: r.figure() }
 }
 
-fn record(r: &mut Random, who: usize, n: u8, k: u8, phase: u8) -> Record {
+fn place(r: &mut Random, n: u8, k: u8, phases: &[u8]) -> Place {
+    let phase = r.pick(phases);
+    let island = if r.once_in(3) { k - 1 } else { r.below(k as usize) as u8 };
+    let next = if r.once_in(2) { n - 1 } else { r.below(n as usize) as u8 };
+    Place { phase, island, next }
+}
+
+fn record(r: &mut Random, who: usize, k: u8, place: Place) -> Record {
+    let Place { phase, island, next } = place;
     if phase == 0 {
         return Record::default();
     }
-    let island = if r.once_in(3) { k - 1 } else { r.below(k as usize) as u8 };
     let flag = if matches!(phase, 5 | 6) { r.between(1, 2) as u8 } else { 0 };
     let plain = Record { phase, island, flag, proposal: r.figure(), carried: r.figure(), ..Record::default() };
     if !matches!(phase, 2 | 4 | 6) {
         return plain;
     }
-    let last = n - 1;
-    let next = if r.once_in(2) { last } else { r.below(n as usize) as u8 };
     let passed = next as usize > who;
     let most = phase as usize / 2;
     let seen = r.between(passed as usize, most) as u8;
@@ -71,6 +94,18 @@ fn record(r: &mut Random, who: usize, n: u8, k: u8, phase: u8) -> Record {
         best = best.max(plain.carried);
     }
     Record { next, seen, best_island, best, ..plain }
+}
+
+/// A count of steps that soundness allows: often at its ends, or where the low byte is full.
+fn steps(r: &mut Random, most: usize) -> u16 {
+    let full = r.between(0, most / 256) * 256 + 255;
+    let steps = match r.below(4) {
+        0 => most,
+        1 => full.min(most),
+        2 => 0,
+        _ => r.between(0, most),
+    };
+    steps as u16
 }
 
 /// The own register holds what the record says the station wrote.

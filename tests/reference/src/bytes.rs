@@ -27,7 +27,8 @@ pub struct Record {
     pub proposal: i32,
     pub carried: i32,
     pub best: i32,
-    pub tail: [u8; 4],
+    pub steps: u16,
+    pub tail: [u8; 2],
 }
 
 /// The whole board.
@@ -85,6 +86,7 @@ impl Front<'_> {
             proposal: self.figure(),
             carried: self.figure(),
             best: self.figure(),
+            steps: u16::from_le_bytes(self.take()),
             tail: self.take(),
         }
     }
@@ -133,6 +135,7 @@ fn put_record(out: &mut Vec<u8>, r: &Record) {
     out.extend(r.proposal.to_le_bytes());
     out.extend(r.carried.to_le_bytes());
     out.extend(r.best.to_le_bytes());
+    out.extend(r.steps.to_le_bytes());
     out.extend(r.tail);
 }
 
@@ -247,6 +250,7 @@ pub fn values(f: &Fields) -> World {
         a: Rows { width: f.a.width, all: list(Array::A, &f.a.all) },
         b: Rows { width: f.b.width, all: list(Array::B, &f.b.all) },
         stations: f.records.iter().map(station).collect(),
+        steps: f.records.iter().map(|r| r.steps).collect(),
     }
 }
 
@@ -260,6 +264,6 @@ pub fn fields(w: &World) -> Fields {
         m: list(&w.m),
         a: Rows { width: w.a.width, all: list(&w.a.all) },
         b: Rows { width: w.b.width, all: list(&w.b.all) },
-        records: w.stations.iter().map(record).collect(),
+        records: w.stations.iter().zip(&w.steps).map(|(s, steps)| Record { steps: *steps, ..record(s) }).collect(),
     }
 }

@@ -99,11 +99,11 @@ pub fn rounds(board: &mut [u8], halts: &Halts) -> Result<(usize, usize), Refusal
     Ok((halts.rounds.len(), world.decided()))
 }
 
-/// What `show` says of one station, to that station.
-pub fn standing(board: &[u8], station: u8) -> Result<Standing, Refusal> {
+/// What `show` says of one station, to that station, and the steps that it took.
+pub fn standing(board: &[u8], station: u8) -> Result<(Standing, u16), Refusal> {
     let world = opened(board)?;
     let who = world.place(station)?;
-    Ok(world.stations[who].standing())
+    Ok((world.stations[who].standing(), world.steps[who]))
 }
 
 pub fn show(board: &[u8]) -> Result<String, Refusal> {

@@ -18,7 +18,7 @@ pub trait Engine {
     fn check(&self, board: &mut [u8]) -> u8;
     /// Bits 0–7 refusal, 8–15 kind, 16–23 island or flag, 32–63 figure.
     fn step(&self, board: &mut [u8], station: u8) -> u64;
-    /// Bits 0–7 refusal, 8–11 how the station stands, 12–19 island, 32–63 figure.
+    /// Bits 0–7 refusal, 8–11 how the station stands, 12–19 island, 20–31 steps, 32–63 figure.
     fn standing(&self, board: &mut [u8], station: u8) -> u64;
     /// Bits 0–7 refusal, 8–31 taken, 32–55 passed over.
     fn run(&self, board: &mut [u8], stations: &mut [u8]) -> u64;
@@ -56,15 +56,14 @@ fn packed_answer(answer: Answer) -> u64 {
     }
 }
 
-fn packed_standing(standing: Standing) -> u64 {
-    let packed =
-        |kind: u64, island: u8, figure: i64| kind << 8 | (island as u64) << 12 | (figure as i32 as u32 as u64) << 32;
-    match standing {
-        Standing::Idle => packed(1, 0, 0),
-        Standing::Going(c, v) => packed(2, c, v),
-        Standing::Decided(c, v) => packed(3, c, v),
-        Standing::Spent(c, v) => packed(4, c, v),
-    }
+fn packed_standing((standing, steps): (Standing, u16)) -> u64 {
+    let (kind, island, figure) = match standing {
+        Standing::Idle => (1, 0, 0),
+        Standing::Going(c, v) => (2, c, v),
+        Standing::Decided(c, v) => (3, c, v),
+        Standing::Spent(c, v) => (4, c, v),
+    };
+    kind << 8 | (island as u64) << 12 | (steps as u64) << 20 | (figure as i32 as u32 as u64) << 32
 }
 
 /// "512 bytes, zeros after the line"; the bytes behind them stay.

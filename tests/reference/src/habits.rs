@@ -1,5 +1,7 @@
-//! Halting habits made at random: rounds that can be played, rounds that break a rule, and lists of any bytes.
+//! Halting habits, most of them made at random: rounds that can be played, rounds that break a rule, and lists of any bytes.
 
+use crate::bytes::length;
+use crate::calls;
 use crate::halts::{Halts, ROUND_END};
 use crate::random::Random;
 use crate::sheet::LONGEST_LINE;
@@ -44,6 +46,25 @@ fn circling(r: &mut Random, n: u8, count: usize) -> Vec<Vec<u8>> {
     let skipped = if r.once_in(3) { r.below(first.len() + 1) } else { 0 };
     let all = first.iter().skip(skipped).chain(again.iter().cycle()).take(count);
     all.map(|named| named.iter().copied().filter(|s| *s <= n).collect()).collect()
+}
+
+/// A fresh board on which every station has proposed: a higher station a higher figure, all of eleven characters.
+pub fn rising(n: u8, k: u8) -> Vec<u8> {
+    let mut board = vec![0; length(n, k)];
+    calls::lay(&mut board, n, k).expect("the sizes are in range");
+    for station in 1..=n {
+        calls::propose(&mut board, station, i32::MIN + station as i32).expect("it is idle");
+    }
+    board
+}
+
+/// Rounds in which, on a board with rising figures, every station takes all its 3n + 3 steps on all K islands. On each
+/// island the stations collect m and A one after the other, the lowest figure first; then all but the first go through
+/// B, and the first comes last with its commit. It meets adopts, and they met no commit. A station alone decides on its
+/// first island.
+pub fn contended(n: u8, k: u8) -> Halts {
+    let island = [vec![], vec![], vec![1], (2..=n).collect()];
+    Halts { most: n, rounds: island.iter().cycle().take(4 * k as usize).cloned().collect() }
 }
 
 /// One round changed so that it names a station that is not there, the same one twice, one out of order, or too many.

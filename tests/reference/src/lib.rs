@@ -10,6 +10,7 @@ pub mod boards;
 pub mod bytes;
 pub mod calls;
 pub mod compare;
+pub mod count_batches;
 pub mod edges;
 pub mod engine;
 pub mod habits;

@@ -120,6 +120,8 @@ pub struct World {
     pub a: Rows<Register>,
     pub b: Rows<Register>,
     pub stations: Vec<Station>,
+    /// "the station's own accepted steps since its proposal", of which the listing knows nothing.
+    pub steps: Vec<u16>,
 }
 
 impl Collect {
@@ -173,6 +175,7 @@ impl World {
             a: Rows::filled(n, k, None),
             b: Rows::filled(n, k, None),
             stations: vec![Station::Idle; n],
+            steps: vec![0; n],
         }
     }
 
@@ -195,6 +198,7 @@ impl World {
             return Err(Refusal::NotIdle);
         }
         self.stations[who] = Station::WriteM(Life { proposal: figure, island: 0, carried: figure });
+        self.steps[who] = 0;
         Ok(())
     }
 
@@ -209,6 +213,7 @@ impl World {
         let before = std::mem::replace(&mut self.stations[who], Station::Idle);
         let (after, answer) = self.moved(who, before);
         self.stations[who] = after;
+        self.steps[who] += 1;
         Ok(answer)
     }
 

@@ -1,7 +1,7 @@
 //! Sheets at the edges of `(rounds k (2) () ..)` and of its refusals.
 
 use crate::edges::Edge;
-use crate::habits::steps_lines;
+use crate::habits::{contended, steps_lines};
 use crate::halts::Halts;
 
 /// Three stations with the figures that a habit keeps undecided.
@@ -22,7 +22,7 @@ pub fn edges() -> Vec<Edge> {
     all.push(edge("long lines of rounds", THREE, &lengths()));
     all.push(edge("rounds amid collects", THREE, &amid_collects()));
     all.push(edge("rounds of stations that are done", THREE, &done()));
-    all.extend([before_a_board(), idle_stations(), habit(), sixteen()]);
+    all.extend([before_a_board(), idle_stations(), habit(), sixteen(), every_step()]);
     all
 }
 
@@ -162,4 +162,14 @@ fn sixteen() -> Edge {
         lines.push("(show)".to_string());
     }
     edge("rounds of sixteen", &format!("(board 16 64)\n{proposals}"), &lines)
+}
+
+/// Every step that the largest board has: 3,264 of each station, four islands a line. All are spent, and stay so.
+fn every_step() -> Edge {
+    let proposals: String = (1..=16).map(|i| format!("(propose {i} {})\n", i32::MIN + i)).collect();
+    let line = Halts { most: 15, rounds: contended(16, 4).rounds }.to_line();
+    let mut lines = vec![line; 17];
+    lines.insert(8, "(show)".to_string());
+    lines.push("(steps (times 65536 16))".to_string());
+    edge("rounds of every step there is", &format!("(board 16 64)\n{proposals}"), &lines)
 }

@@ -17,6 +17,7 @@ clauses! {
     head_zeros, register_zeros, empty_registers, marks, islands_in_m, no_islands_in_a_and_b,
     phases, positions, islands, seen_ranges, best_islands, flags, record_zeros, idle_records,
     outside_collects, best_island_outside_m, flag_outside_b, nothing_seen, own_registers, own_seen, own_best,
+    steps_taken,
 }
 
 pub fn sound(f: &Fields) -> bool {
@@ -105,9 +106,9 @@ fn flags(f: &Fields) -> bool {
     every_record(f, |r| !matches!(r.phase, 5 | 6) || matches!(r.flag, 1 | 2))
 }
 
-/// "6–7 zero; .. 20–23 zero."
+/// "6–7 zero; .. 20–23 zero", of which bytes 20 and 21 are in use.
 fn record_zeros(f: &Fields) -> bool {
-    every_record(f, |r| r.zeros == [0; 2] && r.tail == [0; 4])
+    every_record(f, |r| r.zeros == [0; 2] && r.tail == [0; 2])
 }
 
 /// "Idle is all zero."
@@ -170,4 +171,29 @@ fn own_best(f: &Fields) -> bool {
                 _ => true,
             }
     })
+}
+
+/// "the steps of its present pass (a whole one, 3(n + 1), once decided or spent)": in each of the three arrays a pass has
+/// a write and n reads.
+fn of_present_pass(n: u32, r: &Record) -> u32 {
+    let (array, begun) = (n + 1, 1 + r.next as u32);
+    match r.phase {
+        0 | 1 => 0,
+        2 => begun,
+        3 => array,
+        4 => array + begun,
+        5 => 2 * array,
+        6 => 2 * array + begun,
+        _ => 3 * array,
+    }
+}
+
+/// "at most 3(n + 1) × c plus the steps of its present pass"
+pub fn most_steps(n: u8, r: &Record) -> u32 {
+    3 * (n as u32 + 1) * r.island as u32 + of_present_pass(n as u32, r)
+}
+
+/// "A sound board has this at most .."
+fn steps_taken(f: &Fields) -> bool {
+    every_record(f, |r| r.steps as u32 <= most_steps(f.n, r))
 }

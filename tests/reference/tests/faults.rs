@@ -165,11 +165,11 @@ impl Engine for Faulty {
     }
 }
 
-/// Batches are made until one fails.
+/// Batches are made until one fails. The first has far more calls than those after it, and is made last.
 fn found(fault: Fault) -> bool {
     let engine = Faulty(fault);
     let mut compare = Compare::new(&engine);
-    (0..40).any(|seed| {
+    (1..40).chain([0]).any(|seed| {
         compare.batch(seed);
         compare.failed > 0
     })

@@ -27,7 +27,7 @@ fn one_round(board: &mut [u8], suspended: &[u8]) {
 }
 
 fn count(board: &[u8], holds: fn(Standing) -> bool) -> usize {
-    (1..=board[0]).filter(|s| holds(calls::standing(board, *s).unwrap())).count()
+    (1..=board[0]).filter(|s| holds(calls::standing(board, *s).unwrap().0)).count()
 }
 
 fn decided(board: &[u8]) -> usize {

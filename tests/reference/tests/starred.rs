@@ -24,7 +24,7 @@ fn the_first_sheet() {
     );
 }
 
-/// What the first sheet's first `show` prints, asked station by station.
+/// What the first sheet's first `show` prints, asked station by station, and the steps beside it.
 #[test]
 fn how_each_station_stands() {
     let mut board = [9; 200];
@@ -32,13 +32,15 @@ fn how_each_station_stands() {
     assert!(calls::propose(&mut board, 1, -40).is_ok());
     assert!(calls::propose(&mut board, 2, 15).is_ok());
     assert_eq!(calls::run(&mut board, &[1; 12]), Ok((12, 0)));
-    assert_eq!(calls::standing(&board, 1), Ok(Standing::Decided(0, -40)));
-    assert_eq!(calls::standing(&board, 2), Ok(Standing::Going(0, 15)));
-    assert_eq!(calls::standing(&board, 3), Ok(Standing::Idle));
+    assert_eq!(calls::standing(&board, 1), Ok((Standing::Decided(0, -40), 12)));
+    assert_eq!(calls::standing(&board, 2), Ok((Standing::Going(0, 15), 0)));
+    assert_eq!(calls::standing(&board, 3), Ok((Standing::Idle, 0)));
     assert_eq!(number(calls::standing(&board, 0)), 12);
     assert_eq!(number(calls::standing(&board, 4)), 12);
     assert_eq!(calls::run(&mut board, &[2; 24]), Ok((24, 0)));
-    assert_eq!(calls::standing(&board, 2), Ok(Standing::Decided(1, -40)));
+    assert_eq!(calls::standing(&board, 2), Ok((Standing::Decided(1, -40), 24)));
+    assert_eq!(calls::run(&mut board, &[1, 2, 3, 4]), Ok((0, 4)));
+    assert_eq!(calls::standing(&board, 1), Ok((Standing::Decided(0, -40), 12)));
     board[2] = 1;
     assert_eq!(number(calls::standing(&board, 0)), 11);
 }

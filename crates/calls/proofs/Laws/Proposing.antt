@@ -9,7 +9,7 @@ use Rattle.model.specs.Bytes.{part, splice}
 use Rattle.model.specs.Figure.{Figure}
 use Rattle.model.specs.Listing.{proposed}
 use Rattle.model.specs.Layout.{recordAt, readRecord, layRecord, recordFields, writingOf, readingOf, ofPhase}
-use Rattle.model.specs.Layout.{recordValue, recordOf}
+use Rattle.model.specs.Layout.{recordValue, recordOf, withSteps}
 use Rattle.model.specs.Calls.{After, Refusal, stations, islands, boardRefusal, stationRefusal, stationAt, unlessRefused}
 use Rattle.model.specs.Calls.{putRecord, putProposal, notIdle, propose}
 use Rattle.model.specs.Told.{verdict}
@@ -76,7 +76,7 @@ module _ (i : ℕ) (v : Figure) (b : List ℕ) where
       thirteen h = refuses 13 (passes ∙ busy (f .phase) h)
 
       pub taken : f .phase ≡ 0 → SFits w32 v → (g : Record) (d : List ℕ)
-          → g ≡ recordFields (proposed (toZ w32 (ofZ w32 v))) f
+          → g ≡ recordFields (proposed (toZ w32 (ofZ w32 v))) (withSteps 0 f)
           → d ≡ splice at (layRecord g) b → Proposes i v b Accepted d
       unfolding Proposes propose unlessRefused verdict recordValue ofPhase notIdle putRecord recordOf stations
           islands
@@ -84,7 +84,7 @@ module _ (i : ℕ) (v : Figure) (b : List ℕ) where
           let q = sym (passes ∙ ap (λ (k : ℕ). notIdle (ofPhase k f)) z) in
           let here = on .place ∙ ap (recordAt (getD b 0 0) (getD b 1 0)) (on .index) in
           let own = eg ∙ (λ k. recordFields (proposed (toZ-ofZ fits k))
-          ((e ∙ ap (λ (x : ℕ). readRecord (part x 24 b)) here) k)) in (
+          (withSteps 0 ((e ∙ ap (λ (x : ℕ). readRecord (part x 24 b)) here) k))) in (
             ap (λ (r : Refusal). unlessRefused r some b (done i v b) .answer) q,
             ed ∙ (λ k. splice (here k) (layRecord (own k)) b)
                 ∙ ap (λ (r : Refusal). unlessRefused r some b (done i v b) .bytes) q,

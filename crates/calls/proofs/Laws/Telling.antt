@@ -1,4 +1,4 @@
--- Telling how a station stands: the answer at each return.
+-- Telling how a station stands, with its steps: the answer at each return.
 -- Relies on the model's refusals, on Proposing's way past the board's own and on the place of a station; the proofs of
 -- `standing` rely on it.
 use Rattle.model.proofs.Kit.{_≡_, sym, ap, _∙_, List, none, some, ℕ}
@@ -16,7 +16,7 @@ use Rattle.model.proofs.Calls.Refusals.{board-first, station-passes}
 use Rattle.soundness.specs.declared.place.Place.{Place}
 use Rattle.soundness.specs.declared.place.Place.the-variants as places
 use Rattle.soundness.specs.Placed.{Placed}
-use Rattle.soundness.proofs.Laws.Placing.{at-place, not-placed, own-value}
+use Rattle.soundness.proofs.Laws.Placing.{at-place, not-placed, own-value, own-steps}
 use Rattle.stepping.proofs.Laws.Checking.{turned}
 use Rattle.calls.proofs.Laws.Proposing.{past-board}
 
@@ -36,9 +36,10 @@ module _ (i : ℕ) (b : List ℕ) where
     pub tells : (p : Place) (j at : ℕ) → p ≡ places.At j at → Placed i b p → (f : Record)
         → f ≡ readRecord (part at 24 b)
         → (s : standings.Standing) → standingTold s ≡ standingOf (recordValue f)
-        → standingAnswered (Stands s) ≡ standing i b
+        → standingAnswered (Stands s (f .steps)) ≡ standing i b
     unfolding standingAnswered standing stations
     tells p j at is h f e s es =
         let on = at-place i b p j at is h in
         let passes = past-board b sound _ ∙ station-passes i b (record { low = on .low; high = on .high }) none in
-        ap stands (es ∙ ap standingOf (sym (own-value i b j at on f e))) ∙ rw (passes, standing)
+        (λ q. stands ((es ∙ ap standingOf (sym (own-value i b j at on f e))) q) (own-steps i b j at on f e q))
+        ∙ rw (passes, standing)

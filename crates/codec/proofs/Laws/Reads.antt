@@ -2,7 +2,7 @@
 -- Relies on Signs and the laws on parts of the crate model; the proofs of register_at and record_at rely on it.
 use Rattle.model.proofs.Kit.{_≡_, sym, ap, _∙_, List, ℕ, _+_, _≤_, _<_, lit<, ℤ, length, w32, toZ, ofZ, add-zero, arith}
 use lib.Seq.{ext-getD}
-use Rattle.model.specs.Bytes.{byte, part}
+use Rattle.model.specs.Bytes.{byte, number, part}
 use Rattle.model.specs.Figure.{figure}
 use Rattle.model.specs.Layout.{readRegister, readRecord}
 use Rattle.model.proofs.Basics.Splices.{length-part, byte-part}
@@ -44,9 +44,9 @@ register-read b at v h e = λ i. record {
   figure = figure-in at 8 b h 4 v (omega arith) e i;
 }
 
-pub record-read : (b : List ℕ) (at : ℕ) (v x y : ℤ) → at + 24 ≤ length b → v ≡ figure (part (at + 8) 4 b)
+pub record-read : (b : List ℕ) (at : ℕ) (v x y : ℤ) (s : ℕ) → at + 24 ≤ length b → v ≡ figure (part (at + 8) 4 b)
     → x ≡ figure (part (at + 12) 4 b)
-    → y ≡ figure (part (at + 16) 4 b)
+    → y ≡ figure (part (at + 16) 4 b) → s ≡ number (part (at + 20) 2 b)
     → record {
       phase = byte b at;
       position = byte b (at + 1);
@@ -57,9 +57,10 @@ pub record-read : (b : List ℕ) (at : ℕ) (v x y : ℤ) → at + 24 ≤ length
       proposal = toZ w32 (ofZ w32 v);
       carried = toZ w32 (ofZ w32 x);
       best = toZ w32 (ofZ w32 y);
+      steps = s;
     } ≡ readRecord (part at 24 b)
 unfolding readRecord
-record-read b at v x y h ev ex ey = λ i. record {
+record-read b at v x y s h ev ex ey es = λ i. record {
   phase = first-byte at 24 b (lit< tt) i;
   position = byte-at at 24 b 1 (lit< tt) i;
   island = byte-at at 24 b 2 (lit< tt) i;
@@ -69,4 +70,5 @@ record-read b at v x y h ev ex ey = λ i. record {
   proposal = figure-in at 24 b h 8 v (omega arith) ev i;
   carried = figure-in at 24 b h 12 x (omega arith) ex i;
   best = figure-in at 24 b h 16 y (omega arith) ey i;
+  steps = (es ∙ ap number (part-part at 24 20 2 b h (omega arith))) i;
 }

@@ -1,14 +1,15 @@
 -- The stores of the functions that put a figure or a part of a record: each store is a splice of its field.
 -- Relies on the laws on splices of the crate model; the proofs of those functions rely on it.
-use Rattle.model.proofs.Kit.{_≡_, refl, sym, ap, _∙_, List, [], _∷_, ℕ, suc, _+_, _≤_, _<_, lit<, length, set}
+use Rattle.model.proofs.Kit.{_≡_, refl, sym, ap, _∙_, List, [], _∷_, ℕ, suc, _+_, _≤_, _<_, lit<, lit≤, length, set}
 use Rattle.model.proofs.Kit.{length-set, add-zero, arith}
 use lib.Seq.{sets-eq}
 use Rattle.model.specs.declared.Record.{Record}
-use Rattle.model.specs.Bytes.{byte, splice, digits}
+use Rattle.model.specs.Bytes.{byte, number, part, splice, digits}
 use Rattle.model.specs.Figure.{Figure, figureBytes}
-use Rattle.model.specs.Layout.{putChanges}
+use Rattle.model.specs.Layout.{readRecord, putChanges, stepsIs}
 use Rattle.model.proofs.Basics.Splices.{splice-set}
-use Rattle.codec.specs.Parts.{phasePart, collectedPart, startedPart}
+use Rattle.codec.specs.Parts.{stepsRead, phasePart, collectedPart, startedPart}
+use Rattle.codec.proofs.Laws.Reads.{part-part}
 
 pub figure-put : (v : Figure) (at : ℕ) (b f : List ℕ) → at + 4 ≤ length b → f ≡ figureBytes v
     → set (set (set (set b at (byte f 0)) (at + 1) (byte f 1)) (at + 2) (byte f 2)) (at + 3) (byte f 3)
@@ -27,6 +28,26 @@ figure-put v at b f h e =
 
     three : at + 3 ≡ suc (suc (suc at))
     three = omega arith
+
+-- the steps as they are read, and one more of them put
+module _ (at : ℕ) (b : List ℕ) (h : at + 24 ≤ length b) (x : ℕ) (e : x ≡ number (part (at + 20) 2 b)) where
+  steps-read : x ≡ stepsRead at b
+  unfolding readRecord
+  steps-read = e ∙ ap number (part-part at 24 20 2 b h (lit≤ tt))
+
+  pub steps-fit : stepsRead at b < 65535 → x + 1 < 65536
+  steps-fit l = omega (arith, steps-read)
+
+  pub steps-put : (k : List ℕ) → k ≡ digits 2 (x + 1)
+      → set (set b (at + 20) (byte k 0)) (at + 21) (byte k 1) ≡ putChanges (stepsIs (stepsRead at b + 1) ∷ []) at b
+  unfolding putChanges splice digits
+  steps-put k q =
+      (λ i. set (set b (at + 20) (byte (q i) 0)) (next i) (byte (q i) 1))
+      ∙ sets-eq (digits 2 (x + 1)) b (at + 20) (omega arith)
+      ∙ ap (λ (y : ℕ). splice (at + 20) (digits 2 (y + 1)) b) steps-read
+    where
+      next : at + 21 ≡ suc (at + 20)
+      next = omega arith
 
 -- the bytes p are d after some stores, which leave their length n; and one store more
 record After (n : ℕ) (p d : List ℕ) : Type 0 where

@@ -48,19 +48,20 @@ length-register r = refl
 abbrev pub pair : List ℕ → List ℕ → List ℕ
 pair v x = byte v 0 ∷ byte v 1 ∷ byte v 2 ∷ byte v 3 ∷ byte x 0 ∷ byte x 1 ∷ byte x 2 ∷ byte x 3 ∷ []
 
--- and of one figure before four zeros
-abbrev pub padded : List ℕ → List ℕ
-padded y = byte y 0 ∷ byte y 1 ∷ byte y 2 ∷ byte y 3 ∷ 0 ∷ 0 ∷ 0 ∷ 0 ∷ []
+-- and of one figure before two bytes k and two zeros
+abbrev pub padded : List ℕ → List ℕ → List ℕ
+padded y k = byte y 0 ∷ byte y 1 ∷ byte y 2 ∷ byte y 3 ∷ byte k 0 ∷ byte k 1 ∷ 0 ∷ 0 ∷ []
 
-pub record-laid : (r : Record) (at : ℕ) (b b1 b2 b3 v x y : List ℕ)
+pub record-laid : (r : Record) (at : ℕ) (b b1 b2 b3 v x y k : List ℕ)
     → v ≡ figureBytes (r .proposal) → x ≡ figureBytes (r .carried) → y ≡ figureBytes (r .best)
+    → k ≡ digits 2 (r .steps)
     → b1 ≡ splice at (r .phase ∷ r .position ∷ r .island ∷ r .seen ∷ r .highest ∷ r .flag ∷ 0 ∷ 0 ∷ []) b
-    → b2 ≡ splice (at + 8) (pair v x) b1 → b3 ≡ splice (at + 16) (padded y) b2 → b3 ≡ splice at (layRecord r) b
+    → b2 ≡ splice (at + 8) (pair v x) b1 → b3 ≡ splice (at + 16) (padded y k) b2 → b3 ≡ splice at (layRecord r) b
 unfolding layRecord figureBytes digits
-record-laid r at b b1 b2 b3 v x y ev ex ey e1 e2 e3 =
-    e3 ∙ ap (splice (at + 16) (padded y)) (e2 ∙ ap (splice (at + 8) (pair v x)) e1 ∙ splice-join at head (pair v x) b)
-    ∙ splice-join at (head ++ pair v x) (padded y) b
-    ∙ (λ i. splice at (head ++ pair (ev i) (ex i) ++ padded (ey i)) b)
+record-laid r at b b1 b2 b3 v x y k ev ex ey ek e1 e2 e3 =
+    e3 ∙ ap (splice (at + 16) (padded y k)) (e2 ∙ ap (splice (at + 8) (pair v x)) e1 ∙ splice-join at head (pair v x) b)
+    ∙ splice-join at (head ++ pair v x) (padded y k) b
+    ∙ (λ i. splice at (head ++ pair (ev i) (ex i) ++ padded (ey i) (ek i)) b)
   where
     head : List ℕ
     head = r .phase ∷ r .position ∷ r .island ∷ r .seen ∷ r .highest ∷ r .flag ∷ 0 ∷ 0 ∷ []

@@ -1,8 +1,8 @@
 -- Numbers of several bytes, and figures, as bytes and back. One law each, for any count of bytes.
 -- Relies on Bytes, Figure and Tests; the laws on registers and records rely on it.
-use Rattle.model.proofs.Kit.{_≡_, refl, ap, _∙_, Bool, true, List, [], _∷_, ℕ, zero, suc, _+_, _<_, _/_, _%_}
-use Rattle.model.proofs.Kit.{_*_, ltb-true, ltb-false, ltb, lit<, T, eqb→eq, eqb-refl, pos, negsuc, length, ltZ}
-use Rattle.model.proofs.Kit.{toZ-ofZ, w32, toZ, ofZ, SFits, arith}
+use Rattle.model.proofs.Kit.{_≡_, refl, ap, _∙_, Bool, true, List, [], _∷_, ℕ, zero, suc, _+_, _≤_, _<_, _/_}
+use Rattle.model.proofs.Kit.{_%_, _*_, ltb-true, ltb-false, ltb, lit<, T, eqb→eq, eqb-refl, pos, negsuc, length}
+use Rattle.model.proofs.Kit.{ltZ, toZ-ofZ, w32, toZ, ofZ, SFits, arith}
 use Prim.Native.Nat.{_^_}
 use native.Mathlib.Nat.{pow-suc}
 use lib.Signed.{mag}
@@ -28,6 +28,12 @@ number-digits zero x h = omega arith
 number-digits (suc k) x h =
     let high : x / 256 < 256 ^ k = omega (arith, pow-suc 256 k) in
     rw (number-digits k (x / 256) high) (omega arith)
+
+-- and whatever the number is, its lowest bytes are no more than it
+pub digits-below : (k x : ℕ) → number (digits k x) ≤ x
+unfolding number digits
+digits-below zero x = omega arith
+digits-below (suc k) x = omega (arith, digits-below k (x / 256))
 
 pub digits-number : (bs : List ℕ) → Bytes bs → digits (length bs) (number bs) ≡ bs
 unfolding number digits Bytes

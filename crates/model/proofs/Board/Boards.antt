@@ -1,16 +1,19 @@
 -- A board after a station's record or one register was put in: what each part of it then holds.
 -- Relies on Splices, Places and Codec; that the calls keep a board sound relies on it, and the bridge to values.
-use Rattle.model.proofs.Kit.{_≡_, sym, ap, _∙_, ⊎-elim, _⊎_, List, some, ℕ, _+_, _≤_, _<_, length, arith}
+use Rattle.model.proofs.Kit.{_≡_, sym, ap, _∙_, ⊎-elim, _⊎_, List, [], _∷_, some, ℕ, _+_, _≤_, _<_, length}
+use Rattle.model.proofs.Kit.{arith}
 use Rattle.model.specs.declared.Record.{Record}
 use Rattle.model.specs.Bytes.{byte, part, splice}
 use Rattle.model.specs.Figure.{Figure}
-use Rattle.model.specs.Listing.{Register, Array}
-use Rattle.model.specs.Layout.{boardLength, registerAt, recordAt, layRecord, recordOf}
+use Rattle.model.specs.Listing.{Register, Array, Station}
+use Rattle.model.specs.Layout.{boardLength, registerAt, recordAt, layRecord, recordFields, recordOf, stepsIs}
+use Rattle.model.specs.Layout.{withSteps, putChanges}
 use Rattle.model.specs.Calls.{putRecord, putRegister}
 use Rattle.model.proofs.Basics.Splices.{length-splice, byte-before, part-same, part-before, part-after}
 use Rattle.model.proofs.Board.Places.{InBoard, head-first, register-inside, record-inside, register-fits}
 use Rattle.model.proofs.Board.Places.{head-before-records, records-apart, registers-apart}
-use Rattle.model.proofs.Board.Codec.{registerBytes, length-register, length-record}
+use Rattle.model.proofs.Board.Changes.{all-put}
+use Rattle.model.proofs.Board.Codec.{registerBytes, length-register, length-record, steps-beside}
 
 -- the register of array a and station index j, as bytes
 unfoldable pub registerPart : (n : ℕ) → Array → (j : ℕ) → List ℕ → List ℕ
@@ -59,6 +62,16 @@ module _ (n K : ℕ) (b : List ℕ) (len : length b ≡ boardLength n K) (i : �
   unfolding putRecord registerPart
   record-register a j h l =
       part-before (recordAt n K i) (layRecord f) b fits (registerAt n a j) 8 (register-inside n K a j i h l)
+
+-- other steps put into a station's record that was put in
+pub steps-over : (n K : ℕ) (b : List ℕ) → length b ≡ boardLength n K → (i : ℕ) → i < n
+    → (s : Station Figure) (k : ℕ) (f : Record)
+    → putChanges (stepsIs k ∷ []) (recordAt n K i) (putRecord n K i (recordFields s f) b)
+    ≡ putRecord n K i (recordFields s (withSteps k f)) b
+unfolding putRecord
+steps-over n K b len i own s k f =
+    all-put (recordAt n K i) b (omega (arith, record-inside n K i own)) (stepsIs k ∷ []) (recordFields s f)
+    ∙ ap (λ (g : Record). splice (recordAt n K i) (layRecord g) b) (steps-beside s k f)
 
 module _ (n K : ℕ) (b : List ℕ) (len : length b ≡ boardLength n K) (a : Array) (inside : InBoard K a) (i : ℕ)
     (own : i < n) (r : Register Figure) where

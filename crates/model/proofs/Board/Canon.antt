@@ -11,12 +11,12 @@ use Rattle.model.specs.Listing.{Flag, adopt, commit, filled, idle, Seen,
 use Rattle.model.specs.Layout.{layRegister, readRegister, registerFields, registerValue, seenNumber, bestIsland}
 use Rattle.model.specs.Layout.{bestFigure, seenOf, writePhase, flagByte, readRecord, layRecord, fields}
 use Rattle.model.specs.Layout.{recordFields, recordValue, writingOf, readingOf, ofPhase, changed, phaseIs}
-use Rattle.model.specs.Layout.{positionIs, seenIs, highestIs, flagIs, bestIs, gapAt, gap, tailAt, tail}
+use Rattle.model.specs.Layout.{positionIs, seenIs, highestIs, flagIs, bestIs, stepsAt, gapAt, gap, tailAt, tail}
 use Rattle.model.specs.Sound.{registerSound, collecting, phaseKnown, flagKnown, restZero, idleZero, collectZero}
 use Rattle.model.specs.Sound.{bestIslandZero, bestZero, seenKnown, fieldsSound}
 use Rattle.model.proofs.Board.Codec.{registerBytes, marked-by, register, station}
 use Rattle.model.proofs.Basics.Tests.{and-l, and-r, or-case, zeros-is, implies-use}
-use Rattle.model.proofs.Basics.Numbers.{Bytes, bytes-figure}
+use Rattle.model.proofs.Basics.Numbers.{Bytes, digits-number, bytes-figure}
 use Rattle.model.proofs.Basics.Splices.{length-part}
 use Rattle.model.proofs.Basics.Parts.{listed, part-listed, part-join, part-whole, part-Bytes, part-zeros}
 use Rattle.model.proofs.Basics.Parts.{zero-at}
@@ -69,26 +69,32 @@ module _ (marks islands : ℕ) (low : marks ≤ 2) (r : List ℕ) (e : length r 
 
 module _ (r : List ℕ) (e : length r ≡ 24) (bytes : Bytes r) where
   record-parts : r ≡ (byte r 0 ∷ byte r 1 ∷ byte r 2 ∷ byte r 3 ∷ byte r 4 ∷ byte r 5 ∷ byte r 6 ∷ byte r 7 ∷ [])
-      ++ part 8 4 r ++ part 12 4 r ++ part 16 4 r ++ part 20 4 r
+      ++ part 8 4 r ++ part 12 4 r ++ part 16 4 r ++ part 20 2 r ++ part 22 2 r
   unfolding listed
   record-parts =
-      sym (part-whole r 24 e) ∙ part-join 0 20 4 r
-      ∙ ap (λ (l : List ℕ). l ++ part 20 4 r)
+      sym (part-whole r 24 e) ∙ part-join 0 22 2 r
+      ∙ ap (λ (l : List ℕ). l ++ part 22 2 r)
+      (part-join 0 20 2 r
+      ∙ ap (λ (l : List ℕ). l ++ part 20 2 r)
       (part-join 0 16 4 r
       ∙ ap (λ (l : List ℕ). l ++ part 16 4 r)
       (part-join 0 12 4 r
       ∙ ap (λ (l : List ℕ). l ++ part 12 4 r)
-      (part-join 0 8 4 r ∙ ap (λ (l : List ℕ). l ++ part 8 4 r) (part-listed 0 8 r (omega arith)))))
+      (part-join 0 8 4 r ∙ ap (λ (l : List ℕ). l ++ part 8 4 r) (part-listed 0 8 r (omega arith))))))
 
   figure-at : (at : ℕ) → at + 4 ≤ 24 → figureBytes (figure (part at 4 r)) ≡ part at 4 r
   figure-at at h = bytes-figure (part at 4 r) (length-part at 4 r (omega arith)) (part-Bytes at 4 r bytes)
+
+  steps-at : digits 2 (number (part stepsAt 2 r)) ≡ part stepsAt 2 r
+  steps-at =
+      rw (length-part stepsAt 2 r (omega arith)) at (digits-number (part stepsAt 2 r) (part-Bytes stepsAt 2 r bytes))
 
   -- a record is its fields and zeros
   pub laid-fields : T (restZero (byte r 0) r) → layRecord (readRecord r) ≡ r
   unfolding layRecord readRecord restZero
   laid-fields z =
       (λ i. (byte r 0 ∷ byte r 1 ∷ byte r 2 ∷ byte r 3 ∷ byte r 4 ∷ byte r 5 ∷ six i ∷ seven i ∷ [])
-      ++ figure-at 8 (lit≤ tt) i ++ figure-at 12 (lit≤ tt) i ++ figure-at 16 (lit≤ tt) i ++ last i)
+      ++ figure-at 8 (lit≤ tt) i ++ figure-at 12 (lit≤ tt) i ++ figure-at 16 (lit≤ tt) i ++ steps-at i ++ last i)
       ∙ sym record-parts
     where
       front : T (zeros (part gapAt gap r))

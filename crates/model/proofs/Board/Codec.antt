@@ -1,6 +1,7 @@
 -- Registers and records as bytes: their lengths, and decoding after encoding is the identity on 32-bit figures.
 -- Relies on the layout and on Numbers; the laws on a board after a write rely on it.
-use Rattle.model.proofs.Kit.{_≡_, refl, ap, _∙_, List, [], _∷_, ℕ, zero, suc, lit<, length, w32, SFits}
+use Rattle.model.proofs.Kit.{_≡_, refl, ap, _∙_, List, [], _∷_, ℕ, zero, suc, _≤_, lit<, length, w32}
+use Rattle.model.proofs.Kit.{SFits}
 use Rattle.model.specs.declared.Record.{Record}
 use Rattle.model.specs.Bytes.{number, digits, part}
 use Rattle.model.specs.Figure.{Figure, figure, figureBytes}
@@ -10,8 +11,8 @@ use Rattle.model.specs.Listing.{idle, active, flagOf, flagNumber}
 use Rattle.model.specs.Layout.{layRegister, readRegister, registerFields, registerValue, seenNumber, bestIsland}
 use Rattle.model.specs.Layout.{bestFigure, seenOf, writePhase, flagByte, changed, proposalIs, carriedIs, bestIs}
 use Rattle.model.specs.Layout.{layRecord, readRecord, fields, recordFields, recordValue, writingOf, readingOf}
-use Rattle.model.specs.Layout.{ofPhase}
-use Rattle.model.proofs.Basics.Numbers.{figure-fits, figure-bytes}
+use Rattle.model.specs.Layout.{ofPhase, withSteps}
+use Rattle.model.proofs.Basics.Numbers.{digits-below, figure-fits, figure-bytes}
 
 -- a register and a station's record as bytes, the record having been f, and back
 abbrev pub registerBytes : Register Figure → List ℕ
@@ -103,7 +104,32 @@ station-back (active v (reading (turnB commit) c x p a)) f =
 station-back (active v (has-decided c x)) f = refl
 station-back (active v (is-spent c x)) f = refl
 
+-- how it stands tells nothing of the steps
+pub steps-stay : (s : Station Figure) (f : Record) → recordFields s f .steps ≡ f .steps
+unfolding recordFields fields changed
+steps-stay idle f = refl
+steps-stay (active v (writing t c x)) f = refl
+steps-stay (active v (reading t c x p a)) f = refl
+steps-stay (active v (has-decided c x)) f = refl
+steps-stay (active v (is-spent c x)) f = refl
+
+pub steps-beside : (s : Station Figure) (k : ℕ) (f : Record)
+    → withSteps k (recordFields s f) ≡ recordFields s (withSteps k f)
+unfolding recordFields fields changed
+steps-beside idle k f = refl
+steps-beside (active v (writing t c x)) k f = refl
+steps-beside (active v (reading t c x p a)) k f = refl
+steps-beside (active v (has-decided c x)) k f = refl
+steps-beside (active v (is-spent c x)) k f = refl
+
 -- ---- and its fields survive their bytes
+
+pub steps-back : (f : Record) → readRecord (layRecord f) .steps ≡ number (digits 2 (f .steps))
+unfolding readRecord layRecord part figureBytes digits
+steps-back f = refl
+
+pub steps-below : (s : Station Figure) (f : Record) → readRecord (recordBytes s f) .steps ≤ f .steps
+steps-below s f = rw (steps-back (recordFields s f), steps-stay s f) (digits-below 2 (f .steps))
 
 best-back : (a : Seen Figure) → FitsSeen a → figure (figureBytes (bestFigure a)) ≡ bestFigure a
 unfolding bestFigure FitsSeen figure figureBytes digits number

@@ -5,13 +5,14 @@ use Rattle.model.proofs.Kit.{true, lt-ltb, replicate, length-replicate,
 use mathlib.Core.Path.{subst⁻¹}
 use lib.ListN.{getD-replicate}
 use lib.Seq.{ext-getD}
-use Rattle.model.specs.Bytes.{byte, part, zeros, implies}
+use Rattle.model.specs.Bytes.{byte, number, part, zeros, implies}
 use Rattle.model.specs.Listing.{Array}
 use Rattle.model.specs.Layout.{boardLength, registerAt, recordAt, freshBoard, readRecord, recordValue, ofPhase}
 use Rattle.model.specs.Layout.{recordOf}
 use Rattle.model.specs.Sound.{headSound, registerSound, ownWritten, ownPassed, collecting, phaseKnown}
 use Rattle.model.specs.Sound.{positionInside, islandInside, bestInside, flagKnown, restZero, idleZero}
 use Rattle.model.specs.Sound.{collectZero, bestIslandZero, bestZero, seenKnown, fieldsSound, recordSound}
+use Rattle.model.specs.Sound.{stepsKept, mostSteps}
 use Rattle.model.proofs.Basics.Tests.{zeros-replicate, true-T}
 use Rattle.model.proofs.Basics.Splices.{length-part, byte-part}
 use Rattle.model.proofs.Board.Places.{InBoard, register-fits, record-inside, head-first, head-before-records}
@@ -55,7 +56,7 @@ module _ (n K : ℕ) where
   zero-sound : 0 < n → 0 < K → (i : ℕ) → recordSound n K i (freshBoard n K) (replicate 24 0) ≡ true
   unfolding recordSound fieldsSound phaseKnown positionInside islandInside bestInside flagKnown restZero idleZero
       collectZero bestIslandZero bestZero seenKnown collecting implies zeros part readRecord recordValue ofPhase
-      ownWritten ownPassed
+      ownWritten ownPassed stepsKept mostSteps number
   zero-sound hn hK i = simp (lt-ltb 0 n hn, lt-ltb 0 K hK)
 
   pub fresh-sound : 0 < n → 0 < K → SoundBoard n K (freshBoard n K)

@@ -1,6 +1,7 @@
 -- What changes on a board keeps it sound: one register of a station, then that station's record.
 -- Relies on Boards and Values; that the calls keep a board sound relies on it.
-use Rattle.model.proofs.Kit.{_≡_, refl, sym, ap, subst, List, some, ℕ, _<_, T, lit≤, ℕ-discrete, arith}
+use Rattle.model.proofs.Kit.{_≡_, refl, sym, ap, subst, List, some, ℕ, _≤_, _<_, leb, T, lit≤, le→leb}
+use Rattle.model.proofs.Kit.{ℕ-discrete, arith}
 use mathlib.Core.Path.{subst⁻¹}
 use Rattle.model.specs.declared.Record.{Record}
 use Rattle.model.specs.Bytes.{byte, zeros}
@@ -8,11 +9,13 @@ use Rattle.model.specs.Figure.{Figure}
 use Rattle.model.specs.Listing.{Register, Stage, writing, reading, has-decided, is-spent, Station, idle, active}
 use Rattle.model.specs.Listing.{Array, array, entry}
 use Rattle.model.specs.Layout.{readRecord, layRecord, recordFields, recordValue, registerOf, recordOf}
-use Rattle.model.specs.Sound.{headSound, ownWritten, ownPassed, sameRegister, fieldsSound, recordSound}
+use Rattle.model.specs.Sound.{headSound, ownWritten, ownPassed, sameRegister, mostSteps, stepsKept, fieldsSound}
+use Rattle.model.specs.Sound.{recordSound}
 use Rattle.model.specs.Calls.{putRecord, putRegister}
 use Rattle.model.proofs.Basics.Tests.{and-l, and-r, and-i, true-T}
 use Rattle.model.proofs.Board.Places.{InBoard, same-place}
 use Rattle.model.proofs.Board.Codec.{registerBytes, recordBytes, register, station, FitsStation, station-bytes}
+use Rattle.model.proofs.Board.Codec.{steps-below}
 use Rattle.model.proofs.Board.Boards.{registerPart, record-length, record-before, record-same, record-other}
 use Rattle.model.proofs.Board.Boards.{record-register, register-length, register-before, register-same}
 use Rattle.model.proofs.Board.Boards.{register-other, register-record}
@@ -86,18 +89,21 @@ module _ (i n K : ℕ) (b : List ℕ) (s : SoundBut i n K b) (a : Array) (inside
         (s .others j h f));
   }
 
--- A good station with its own clauses encodes to a sound record.
+-- A good station with its own clauses and few enough steps encodes to a sound record.
 record-sound : (n K : ℕ) → 0 < n → 0 < K → (i : ℕ) (b : List ℕ) (v : Figure) (s : Stage Figure) (f : Record)
-    → FitsStation (active v s) → SoundStation n K i b (active v s)
+    → FitsStation (active v s) → SoundStation n K i b (active v s) → f .steps ≤ mostSteps n (active v s)
     → T (recordSound n K i b (recordBytes (active v s) f))
-unfolding recordSound GoodStation
-record-sound n K hn hK i b v s f fits g =
+unfolding recordSound GoodStation stepsKept
+record-sound n K hn hK i b v s f fits g few =
     let r = recordBytes (active v s) f in
     let same = station-bytes (active v s) f fits in
     let fields : T (fieldsSound n K (byte r 0) r) = true-T _ (good-fields n K hn hK v s f (g .good)) in
     let written : T (ownWritten n i b (station r)) =
     subst⁻¹ (λ (z : Station Figure). T (ownWritten n i b z)) same (g .written) in
     let passed : T (ownPassed i (station r)) = subst⁻¹ (λ (z : Station Figure). T (ownPassed i z)) same (g .passed) in
+    let steps : T (stepsKept n (readRecord r .steps) (station r)) =
+    subst⁻¹ (λ (z : Station Figure). T (leb (readRecord r .steps) (mostSteps n z))) same
+    (le→leb (readRecord r .steps) (mostSteps n (active v s)) (omega (arith, few, steps-below (active v s) f))) in
     search and-i
 
 -- A record of station index i is put in that is sound there.
@@ -130,10 +136,10 @@ module _ (i n K : ℕ) (b : List ℕ) (q : SoundBut i n K b) (own : i < n) (f : 
         (record-at j h);
   }
 
--- A station of index i that comes to stand otherwise, whatever its record was.
+-- A station of index i that comes to stand otherwise, whatever its record f was but for the number of its steps.
 pub station-keeps : (i n K : ℕ) (b : List ℕ) → SoundBut i n K b → i < n → 0 < K → (v : Figure) (s : Stage Figure)
     (f : Record)
-    → FitsStation (active v s) → SoundStation n K i b (active v s)
+    → FitsStation (active v s) → SoundStation n K i b (active v s) → f .steps ≤ mostSteps n (active v s)
     → SoundBoard n K (putRecord n K i (recordFields (active v s) f) b)
-station-keeps i n K b q own hK v s f fits g =
-    record-keeps i n K b q own _ (record-sound n K (omega arith) hK i b v s f fits g)
+station-keeps i n K b q own hK v s f fits g few =
+    record-keeps i n K b q own _ (record-sound n K (omega arith) hK i b v s f fits g few)

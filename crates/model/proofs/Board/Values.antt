@@ -1,7 +1,7 @@
 -- The values on a sound board: each station good, each register readable, each station's own register as it wrote it.
 -- Relies on SoundFacts, Good and OneRead; that the calls keep a board sound relies on it.
-use Rattle.model.proofs.Kit.{_≡_, refl, sym, subst, Bool, cond, _&&_, List, ℕ, zero, suc, _<_, eqb, leb, ltb, T}
-use Rattle.model.proofs.Kit.{eqb→eq, eqb-refl, ltb→lt, lt→ltb}
+use Rattle.model.proofs.Kit.{_≡_, refl, sym, subst, Bool, cond, _&&_, List, ℕ, zero, suc, _≤_, _<_, eqb, leb}
+use Rattle.model.proofs.Kit.{ltb, T, leb→le, eqb→eq, eqb-refl, ltb→lt, lt→ltb}
 use lib.Dec.{eqb·suc-zero}
 use Rattle.model.specs.Bytes.{byte, part, zeros}
 use Rattle.model.specs.Figure.{Figure, figure, figures, sameFigure}
@@ -9,9 +9,9 @@ use Rattle.model.specs.Listing.{Flag, adopt, commit, Turn, turnM, turnA,
 use Rattle.model.specs.Listing.{nothing, seen, Stage, writing, reading, has-decided, is-spent, Station, active}
 use Rattle.model.specs.Listing.{array, entry, placeArray, placeColumn, flagNumber}
 use Rattle.model.specs.Layout.{registerAt, readRegister, registerValue, seenOf, readRecord, recordValue}
-use Rattle.model.specs.Layout.{writingOf, readingOf, ofPhase, registerOf, recordOf, stationOf}
+use Rattle.model.specs.Layout.{writingOf, readingOf, ofPhase, registerOf, recordOf, fieldsOf, stationOf}
 use Rattle.model.specs.Sound.{registerSound, sameRegister, ownWritten, ownSeen, ownPassed}
-use Rattle.model.specs.Sound.{recordSound}
+use Rattle.model.specs.Sound.{mostSteps, stepsKept, recordSound}
 use Rattle.model.proofs.Basics.Tests.{and-l, and-r, and-i, implies-use}
 use Rattle.model.proofs.Basics.Numbers.{same-is, same-refl}
 use Rattle.model.proofs.Board.Places.{InBoard}
@@ -135,6 +135,12 @@ sound-station n K b s i h = record {
   where
     r : List ℕ
     r = recordOf n K i b
+
+-- and of the steps that its record counts
+pub sound-steps : (n K : ℕ) (b : List ℕ) → SoundBoard n K b → (i : ℕ) → i < n
+    → fieldsOf n K i b .steps ≤ mostSteps n (stationOf n K i b)
+unfolding stationOf recordSound stepsKept
+sound-steps n K b s i h = let t = s .records i h in leb→le _ _ (search (and-l, and-r))
 
 own-something : (t : Turn) (c : ℕ) (x : Figure) (a : Seen Figure) → T (ownSeen t c x a) → Something a
 unfolding ownSeen

@@ -53,7 +53,7 @@ inv-along n K c b h (moves i p s eb) =
     let stands = view-station n K b (i - 1) (s .own) ∙ s .stands in
     rw (eb, s .after) (inv-move figures same-law n K (i - 1) (s .own) stands (s .goes) (h .inv))
 
-ready-along : (n K : ℕ) (c : Call) (b : List ℕ) → Ready n K b → Allowed c b → Ready n K (called c b)
+pub ready-along : (n K : ℕ) (c : Call) (b : List ℕ) → Ready n K b → Allowed c b → Ready n K (called c b)
 unfolding called Allowed Fits
 ready-along n K (laying m L) b r a = rw (lay-refused m L b (a .0) (a .1)) r
 ready-along n K (proposing i v) b r a = propose-ready n K i v b a r

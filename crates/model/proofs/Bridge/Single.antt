@@ -8,8 +8,8 @@ use Rattle.model.specs.Listing.{nothing, Stage, writing, reading, has-de
 use Rattle.model.specs.Listing.{array, entry, Answer, refused, accepted, outcome, move, placeArray, placeColumn}
 use Rattle.model.specs.Listing.{proposed}
 use Rattle.model.specs.Layout.{registerOf, stationOf}
-use Rattle.model.specs.Calls.{After, stations, islands, stationAt, notIdle, propose, notGoing, access, stepped}
-use Rattle.model.specs.Calls.{stepOn, step}
+use Rattle.model.specs.Calls.{After, stations, islands, stationAt, propose, notGoing, access, stepped, stepOn}
+use Rattle.model.specs.Calls.{step}
 use Rattle.model.proofs.Basics.Tests.{clash}
 use Rattle.model.proofs.Board.Codec.{Fits, FitsSeen, FitsStage, FitsStation}
 use Rattle.model.proofs.Board.Boards.{register-length}
@@ -21,8 +21,8 @@ use Rattle.model.proofs.Listing.Written.{read-writes}
 use Rattle.model.proofs.Calls.Access.{write-bytes, read-bytes}
 use Rattle.model.proofs.Listing.Going.{Going}
 use Rattle.model.proofs.Calls.StepKeeps.{entry-fits}
-use Rattle.model.proofs.Calls.CallsKeep.{going-of, proposed-fits, good-stage, station-of-fits, propose-keeps}
-use Rattle.model.proofs.Calls.CallsKeep.{propose-head, step-keeps, step-head}
+use Rattle.model.proofs.Calls.CallsKeep.{idle-of, going-of, proposed-fits, good-stage, station-of-fits}
+use Rattle.model.proofs.Calls.CallsKeep.{propose-keeps, propose-head, step-keeps, step-head}
 use Rattle.model.proofs.Calls.Refusals.{some-none, Board, board-of, OnBoard, station-of, index-inside, call-case}
 use Rattle.model.proofs.Calls.Refusals.{step-on}
 use Rattle.model.proofs.Calls.Accepted.{stepOn-access}
@@ -91,11 +91,6 @@ pub record ProposeSim (n K i : ℕ) (v : Figure) (b d : List ℕ) : Type 0 where
   pub own : i - 1 < n
   pub rests : stationOf n K (i - 1) b ≡ idle
   pub after : view n K d ≡ proposing (i - 1) v (view n K b)
-
-idle-of : (z : Station Figure) → notIdle z ≡ none → z ≡ idle
-unfolding notIdle
-idle-of idle e = refl
-idle-of (active v s) e = some-none 13 e
 
 pub propose-sim : (n K i : ℕ) (v : Figure) (b : List ℕ) → Fits v → Ready n K b → propose i v b .answer ≡ none
     → ProposeSim n K i v b (propose i v b .bytes)

@@ -6,17 +6,17 @@ use Rattle.model.specs.Bytes.{byte}
 use Rattle.model.specs.Figure.{Figure}
 use Rattle.model.specs.Listing.{Register, Array, Stage, writing, reading, has-decided, is-spent, Station, idle}
 use Rattle.model.specs.Listing.{active, array, entry, refused, proposed}
-use Rattle.model.specs.Layout.{boardLength, freshBoard, recordOf, stationOf}
+use Rattle.model.specs.Layout.{boardLength, freshBoard, recordOf, stationOf, changed}
 use Rattle.model.specs.Sound.{ownWritten, ownPassed}
-use Rattle.model.specs.Calls.{stations, islands, stationAt, lay, putRecord, propose, notGoing, access, stepped}
-use Rattle.model.specs.Calls.{stepOn, step, putRegister}
+use Rattle.model.specs.Calls.{stations, islands, stationAt, lay, putRecord, notIdle, propose, notGoing, access}
+use Rattle.model.specs.Calls.{stepped, stepOn, step, putRegister}
 use Rattle.model.proofs.Board.Places.{InBoard}
 use Rattle.model.proofs.Board.Codec.{Fits, FitsStation, FitsStage}
 use Rattle.model.proofs.Board.Boards.{record-head, register-head, register-length}
 use Rattle.model.proofs.Board.Good.{GoodStation, GoodStage}
 use Rattle.model.proofs.Calls.Access.{write-bytes, read-bytes}
 use Rattle.model.proofs.Board.SoundFacts.{SoundBoard}
-use Rattle.model.proofs.Board.Values.{array-inside, station-Fits, SoundStation, sound-station}
+use Rattle.model.proofs.Board.Values.{array-inside, station-Fits, SoundStation, sound-station, sound-steps}
 use Rattle.model.proofs.Board.Keeps.{sound-but, station-keeps}
 use Rattle.model.proofs.Listing.Going.{Going}
 use Rattle.model.proofs.Calls.StepKeeps.{access-keeps}
@@ -50,6 +50,11 @@ pub lay-sound : (n K : ℕ) (b : List ℕ) → lay n K b .answer ≡ none → Bo
 lay-sound n K b e = let s = laid-fresh n K b e in subst Board (sym (s .1)) (fresh-board n K b (s .0))
 
 -- ---- what a call leaves as it was
+
+pub idle-of : (z : Station Figure) → notIdle z ≡ none → z ≡ idle
+unfolding notIdle
+idle-of idle e = refl
+idle-of (active v s) e = some-none 13 e
 
 pub going-of : (v : Figure) (s : Stage Figure) → notGoing (active v s) ≡ none → Going s
 unfolding notGoing
@@ -127,14 +132,14 @@ unfolding proposed FitsStation FitsStage
 proposed-fits v h = (h, h)
 
 pub propose-keeps : (i : ℕ) (v : Figure) → Fits v → (b : List ℕ) → Board b → Board (propose i v b .bytes)
-unfolding propose proposed
+unfolding propose proposed changed
 propose-keeps i v fits b h =
     board-again b (propose i v b .bytes) h (propose-head i v b h)
     (call-case (λ a. SoundBoard (stations b) (islands b) (a .bytes)) _ some b _
     (λ e. let own = index-inside i b (station-of i b _ (board-of b _ e .1) .0) in
     let positive : 0 < islands b = omega (arith, h .shape .islands-low) in
     station-keeps (i - 1) _ _ b (sound-but (i - 1) _ _ b (h .sound-board)) own positive v _ _
-    (proposed-fits v fits) (proposed-sound _ _ (i - 1) b v positive))
+    (proposed-fits v fits) (proposed-sound _ _ (i - 1) b v positive) (omega arith))
     (λ k e. h .sound-board))
 
 -- ---- stepping
@@ -149,7 +154,7 @@ unfolding stepped
 stepped-sound n K i b q positive own idle e g = q
 stepped-sound n K i b q positive own (active v s) e g =
     access-keeps n K b q positive i own v s (going-of v s g) (rw e at (station-of-fits n K i b))
-    (rw e at (sound-station n K b q i own))
+    (rw e at (sound-station n K b q i own)) (rw e at (sound-steps n K b q i own))
 
 pub stepOn-keeps : (i : ℕ) (b : List ℕ) → Board b → Board (stepOn i b .bytes)
 unfolding stepOn stationAt

@@ -1,7 +1,7 @@
 -- An accepted step keeps any sound board sound.
 -- Relies on Keeps, Moves, Values and Written; the laws of the calls rely on it.
-use Rattle.model.proofs.Kit.{_≡_, refl, ap, subst, _∙_, true, false, List, some, ℕ, _+_, _<_, lt-ltb, eqb, leb}
-use Rattle.model.proofs.Kit.{ltb, T, ltb→lt, lt→ltb, arith}
+use Rattle.model.proofs.Kit.{_≡_, refl, ap, subst, _∙_, true, false, List, some, ℕ, _+_, _≤_, _<_, lt-ltb, eqb}
+use Rattle.model.proofs.Kit.{leb, ltb, T, ltb→lt, lt→ltb, arith}
 use mathlib.Core.Path.{subst⁻¹}
 use native.Mathlib.Nat.{not-suc-le-zero}
 use Rattle.model.specs.Bytes.{part, zeros, implies, digits}
@@ -9,8 +9,8 @@ use Rattle.model.specs.Figure.{Figure, figures, figureBytes}
 use Rattle.model.specs.Listing.{Flag, adopt, commit, flagNumber, Turn, turnM, turnA, turnB, Register, Seen}
 use Rattle.model.specs.Listing.{nothing, Stage, writing, reading, has-decided, is-spent, active, array, entry}
 use Rattle.model.specs.Listing.{Move, stay, see, move, placeArray, placeColumn}
-use Rattle.model.specs.Layout.{layRegister, registerFields, registerOf}
-use Rattle.model.specs.Sound.{registerSound, sameRegister, ownWritten, ownSeen, ownPassed}
+use Rattle.model.specs.Layout.{layRegister, registerFields, registerOf, fieldsOf, changed}
+use Rattle.model.specs.Sound.{registerSound, sameRegister, ownWritten, ownSeen, ownPassed, mostSteps}
 use Rattle.model.specs.Calls.{putRegister, access}
 use Rattle.model.proofs.Listing.Going.{Going}
 use Rattle.model.proofs.Basics.Tests.{true-T, implies-use, implies-make}
@@ -22,6 +22,7 @@ use Rattle.model.proofs.Board.Good.{GoodSeen, GoodStage, GoodStation}
 use Rattle.model.proofs.Listing.Cases.{ended-case, read-case}
 use Rattle.model.proofs.Listing.OneRead.{own-kept, own-met}
 use Rattle.model.proofs.Listing.Moves.{move-good, move-fits}
+use Rattle.model.proofs.Listing.MostSteps.{write-room, read-room}
 use Rattle.model.proofs.Calls.Access.{write-bytes, read-bytes}
 use Rattle.model.proofs.Board.SoundFacts.{marksIn, islandsIn, registerTest, SoundBoard}
 use Rattle.model.proofs.Board.Values.{array-inside, register-same-refl, SoundStation, own-register, readable}
@@ -56,9 +57,13 @@ entry-fits turnA c x h = h
 entry-fits (turnB f) c x h = h
 
 module _ (n K : ℕ) (b : List ℕ) (q : SoundBoard n K b) (hK : 0 < K) (i : ℕ) (own : i < n) (v : Figure) where
+  -- the steps that the station's record counts, before this one, where it stands at stage s
+  abbrev Counted : Stage Figure → Type 0
+  Counted s = fieldsOf n K i b .steps ≤ mostSteps n (active v s)
+
   -- a write: the register is put in, and then the record, which says just that
   module _ (t : Turn) (c : ℕ) (x : Figure) (fits : FitsStation (active v (writing t c x)))
-      (g : SoundStation n K i b (active v (writing t c x))) where
+      (g : SoundStation n K i b (active v (writing t c x))) (few : Counted (writing t c x)) where
     inside : InBoard K (array t c)
     unfolding GoodStation GoodStage
     inside = array-inside K t c (g .good)
@@ -84,17 +89,18 @@ module _ (n K : ℕ) (b : List ℕ) (q : SoundBoard n K b) (hK : 0 < K) (i : ℕ
     }
 
     write-keeps : SoundBoard n K (access n K i v (writing t c x) b .bytes)
-    unfolding between GoodStation GoodStage FitsStation FitsStage FitsSeen
+    unfolding between GoodStation GoodStage FitsStation FitsStage FitsSeen changed
     write-keeps =
         subst⁻¹ (SoundBoard n K) (write-bytes n K i v b t c x)
         (station-keeps i n K between
         (register-keeps i n K b (sound-but i n K b q) (array t c) inside own (entry t c x)
         (true-T _ (entry-sound K t c x (g .good))))
-        own hK v (reading t c x 0 nothing) _ (fits .0, (fits .1, tt)) begun)
+        own hK v (reading t c x 0 nothing) _ (fits .0, (fits .1, tt)) begun
+        (omega (arith, few, write-room n K v t c x)))
 
   -- a read: the record alone is put in
   module _ (t : Turn) (c : ℕ) (x : Figure) (p : ℕ) (a : Seen Figure) (fits : FitsStation (active v (reading t c x p a)))
-      (g : SoundStation n K i b (active v (reading t c x p a))) where
+      (g : SoundStation n K i b (active v (reading t c x p a))) (few : Counted (reading t c x p a)) where
     met : Register Figure
     met = registerOf n (array t c) p b
 
@@ -136,18 +142,26 @@ module _ (n K : ℕ) (b : List ℕ) (q : SoundBoard n K b) (hK : 0 < K) (i : ℕ
           read-case K Passed c t x figures n p a met (λ l. passed-next) (λ l. ended-case K Passed c t x _ (search));
     }
 
+    -- at the end of the collect its own position is passed
+    room : mostSteps n (active v (reading t c x p a)) + 1 ≤ mostSteps n (active v (moved .stage))
+    unfolding moved GoodStation GoodStage
+    room =
+        read-room n K v t c x p a met (g .good .1)
+        (λ l. implies-use (ltb i (p + 1)) (ownSeen t c x (see figures t a met)) passed-next
+        (lt→ltb i (p + 1) (omega arith)))
+
     read-keeps : SoundBoard n K (access n K i v (reading t c x p a) b .bytes)
-    unfolding moved met FitsStation placeArray placeColumn
+    unfolding moved met FitsStation placeArray placeColumn changed
     read-keeps =
         subst⁻¹ (SoundBoard n K) (read-bytes n K i v b t c x p a)
         (station-keeps i n K b (sound-but i n K b q) own hK v (moved .stage) _
         (fits .0, move-fits n K (reading t c x p a) met (fits .1) (readable n K b q i own v (reading t c x p a) g))
-        gone-on)
+        gone-on (omega (arith, few, room)))
 
   -- An accepted step of station index i, which stands at stage s, keeps the board sound.
   pub access-keeps : (s : Stage Figure) → Going s → FitsStation (active v s) → SoundStation n K i b (active v s)
-      → SoundBoard n K (access n K i v s b .bytes)
-  access-keeps (writing t c x) h fits g = write-keeps t c x fits g
-  access-keeps (reading t c x p a) h fits g = read-keeps t c x p a fits g
-  access-keeps (has-decided c x) h fits g = absurd h
-  access-keeps (is-spent c x) h fits g = absurd h
+      → Counted s → SoundBoard n K (access n K i v s b .bytes)
+  access-keeps (writing t c x) h fits g few = write-keeps t c x fits g few
+  access-keeps (reading t c x p a) h fits g few = read-keeps t c x p a fits g few
+  access-keeps (has-decided c x) h fits g few = absurd h
+  access-keeps (is-spent c x) h fits g few = absurd h

@@ -1,13 +1,14 @@
 -- The order of figures is strict and total; and pairs by any such order are ordered so too.
 -- Relies on Figure's order; only this file changes with it. Collects' laws on the best value rely on it.
-use Rattle.model.proofs.Kit.{_≡_, refl, sym, ap, _∙_, true, false, _&&_, inl, inr, ⊎-elim, _⊎_, ℕ, _<_, lt-ltb}
+use Rattle.model.proofs.Kit.{_≡_, refl, sym, ap, _∙_, true, false, _&&_, not, inl, inr, ⊎-elim, _⊎_, ℕ, _≤_}
+use Rattle.model.proofs.Kit.{_<_, lt-ltb}
 use Rattle.model.proofs.Kit.{le-ltb, eq-eqb, ltb-false, eqb, ltb, T, eqb→eq, ltb→lt, lt→ltb, pos, negsuc, arith}
 use native.Mathlib.Nat.{lt-irrefl, lt-trans}
 use Rattle.model.specs.Figure.{Figure, above, figures}
 use Rattle.model.specs.Listing.{Order, pairAbove}
 use Rattle.model.specs.Collects.{Strict}
 use Rattle.model.proofs.Basics.Numbers.{same-law, self-law}
-use Rattle.model.proofs.Basics.Tests.{and-l, and-r, or-case, true-T, T-true, no-T, clash}
+use Rattle.model.proofs.Basics.Tests.{and-l, and-r, or-case, true-T, T-true, T-false, no-T, clash}
 use Rattle.model.proofs.Board.Places.{lower, equal, higher, compared}
 
 -- ---- figures
@@ -65,6 +66,14 @@ module _ {F : Type 0} (o : Order F) (s : Strict o) where
 
   pub pair-irrefl : (k : ℕ) (x : F) → T (pairAbove o k x k x) → ⊥
   pair-irrefl k x t = rw (pair-level k x k x refl, s .irreflexive x) at t
+
+  -- a pair that is not above another is on no higher island
+  pub pair-island : (k : ℕ) (x : F) (j : ℕ) (y : F) → T (not (pairAbove o k x j y)) → k ≤ j
+  pair-island k x j y t = elim (compared k j) [
+    | lower h ↦ omega arith
+    | equal e ↦ omega arith
+    | higher h ↦ absurd (rw (T-false (pairAbove o k x j y) t) at (pair-lower k x j y h))
+  ]
 
   pub pair-trans : (k : ℕ) (x : F) (j : ℕ) (y : F) (l : ℕ) (z : F)
       → T (pairAbove o k x j y) → T (pairAbove o j y l z) → T (pairAbove o k x l z)

@@ -1,8 +1,8 @@
 -- Each form of the sheet once: a form is `board`, or a call on the board that was laid, with all that the sheet's laws
 -- ask of it. Relies on played lines and on what they print; lists of calls, what no line prints and the C interface
 -- rely on `each-form`.
-use Rattle.model.proofs.Kit.{_≡_, refl, sym, ap, _∙_, inl, inr, List, [], _∷_, _++_, map, none, some, ℕ, leb}
-use Rattle.model.proofs.Kit.{length, take, drop, take-append-drop}
+use Rattle.model.proofs.Kit.{_≡_, refl, sym, ap, _∙_, inl, inr, List, [], _++_, map, none, some, ℕ, leb, length}
+use Rattle.model.proofs.Kit.{take, drop, take-append-drop}
 use Rattle.model.specs.Layout.{boardLength}
 use Rattle.model.specs.Calls.{After, lay, run}
 use Rattle.model.specs.Calls as calls
@@ -19,6 +19,7 @@ use Rattle.model.proofs.Basics.Tests.{cond-case}
 use Rattle.model.proofs.Calls.Refusals.{Board, refusal-case}
 use Rattle.model.proofs.Sheet.WrittenBack.{LineStood}
 use Rattle.model.proofs.Sheet.Printed.{propose-says, ran-says, rounds-say, show-says}
+use Rattle.model.proofs.Bridge.RunCalls.{steps-allowed}
 use Rattle.model.proofs.Sheet.PlayedLines.{run-leaves, rounds-leave, board-refused, on-board}
 
 -- What the sheet's laws ask of a form that is a call on the board that was laid.
@@ -32,11 +33,6 @@ pub record OnLaid (f : Form) : Type 1 where
   pub allowed : (b : List ℕ) → InRange f → AllAllowed (formCalls b f) b
   -- and prints no refusal that only library callers meet
   pub says : (b : List ℕ) → Board b → NotMet (say (call b .answer))
-
-steps-allowed : (is b : List ℕ) → AllAllowed (map stepping is) b
-unfolding AllAllowed Allowed
-steps-allowed [] b = tt
-steps-allowed (i ∷ is) b = (tt, steps-allowed is (called (stepping i) b))
 
 round-calls-allowed : (b is : List ℕ) (r : calls.Refusal)
     → AllAllowed (elim r [ none ↦ map stepping is | some j ↦ [] ]) b

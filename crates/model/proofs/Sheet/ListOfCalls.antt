@@ -96,7 +96,7 @@ module _ (n K : ℕ) where
     unfolding playLine
     is-after = board-after p s l (readLine l) here (line-stood l)
 
-  lines-allowed : (ls : List (List ℕ)) (p : Played) → Stands n K p → AllStay ls p
+  pub lines-allowed : (ls : List (List ℕ)) (p : Played) → Stands n K p → AllStay ls p
       → AllAllowed (linesCalls ls p) (boardOf p)
   unfolding linesCalls AllStay AllAllowed
   lines-allowed [] p s h = tt
@@ -106,7 +106,7 @@ module _ (n K : ℕ) where
       (subst (AllAllowed (linesCalls ls (playLine (p .laid) (p .memory) l))) (is-after l ls p s h)
       (lines-allowed ls (playLine (p .laid) (p .memory) l) (on l ls p s h) (h .1)))
 
-  lines-leave : (ls : List (List ℕ)) (p : Played) → Stands n K p → AllStay ls p
+  pub lines-leave : (ls : List (List ℕ)) (p : Played) → Stands n K p → AllStay ls p
       → boardOf (playLines ls p) ≡ after (linesCalls ls p) (boardOf p)
   unfolding linesCalls AllStay playLines after
   lines-leave [] p s h = refl
@@ -130,7 +130,7 @@ module _ (laid : ℕ) (m : List ℕ) (n K : ℕ) (ok : lay n K (take (boardLengt
       ∙ length-append (lay n K (take (boardLength n K) m) .bytes) (drop (boardLength n K) m)
       ∙ ap (λ (k : ℕ). k + length (drop (boardLength n K) m)) laid-length
 
-  board-laid : boardOf (playBoard laid m n K) ≡ lay n K (take (boardLength n K) m) .bytes
+  pub board-laid : boardOf (playBoard laid m n K) ≡ lay n K (take (boardLength n K) m) .bytes
   unfolding boardOf
   board-laid = ap boardOf (board-lays laid m n K ok) ∙ take-at _ _ (boardLength n K) laid-length
 

@@ -1,13 +1,19 @@
 -- The packing: what each return of a packing function has to show.
 -- Relies on the packing's definitions; the functions' proofs rely on it.
-use Rattle.model.proofs.Kit.{_≡_, refl, sym, ap, subst, _∙_, ℕ, zero, suc, _+_, _≤_, _<_, _*_, w32, ofZ, mul-le-mul}
-use Rattle.model.proofs.Kit.{arith}
+use Rattle.model.proofs.Kit.{_≡_, refl, sym, ap, subst, _∙_, ℕ, zero, suc, _+_, _≤_, _<_, _*_, w32, ofZ, SFits}
+use Rattle.model.proofs.Kit.{mul-le-mul, arith}
+use mir.Facts.{fits-ofZ}
 use Rattle.model.specs.Figure.{Figure}
 use Rattle.model.specs.declared.RunVerdict.{RunVerdict}
 use Rattle.model.specs.declared.RunVerdict.the-variants.{Ran}
 use Rattle.model.specs.declared.RoundsVerdict.{RoundsVerdict}
 use Rattle.model.specs.declared.RoundsVerdict.the-variants.{Played}
-use Rattle.packing.specs.Packing.{bits, packedAt, packWord, Few, FewRounds}
+use Rattle.model.specs.declared.Standing.{Standing}
+use Rattle.model.specs.declared.StandingAnswer.{StandingAnswer}
+use Rattle.model.specs.declared.StandingAnswer.the-variants.{Stands}
+use Rattle.packing.specs.Packing.{bits, packedAt, standingPart, packStanding, packWord, Few, FewRounds}
+use Rattle.packing.specs.Packing.{FewSteps}
+use Rattle.model.specs.Told.{standingTold, standingAnswered}
 
 -- an answer a is packed as the variant x that it is
 pub packs : {A : Type 0} (f : A → ℕ) (a x : A) (r : ℕ) → a ≡ x → r ≡ f x → r ≡ f a
@@ -32,6 +38,24 @@ pub parts-are : (place kind field : ℕ) (v z : Figure) (w : ℕ) → z ≡ v �
     → kind * 256 + field * place + w * 4294967296 ≡ packedAt place 0 kind field (bits v)
 unfolding packedAt bits
 parts-are place kind field v z w s h = omega (arith, h ∙ ap (ofZ w32) s)
+
+-- ---- how a station stands, beside its steps
+
+pub part-low : (r kind c : ℕ) (v z : Figure) → r ≡ packedAt 4096 0 kind c (bits z) → z ≡ v → SFits w32 v → kind ≤ 4
+    → c < 256 → r ≤ 18446744069415632895
+unfolding packedAt bits
+part-low r kind c v z h s fits k l = omega (arith, h, ap (ofZ w32) s, fits-ofZ fits .fits)
+
+pub steps-fit : (w : StandingAnswer) (s : Standing) (r k : ℕ) → FewSteps w → w ≡ Stands s k → r ≤ 18446744069415632895
+    → r + k * 1048576 < 18446744073709551616
+unfolding FewSteps
+steps-fit w s r k h e l = let f : k ≤ 4095 = subst FewSteps e h in omega arith
+
+pub stands-packed : (w : StandingAnswer) (s : Standing) (r k : ℕ) → w ≡ Stands s k → r ≡ standingPart (standingTold s)
+    → r + k * 1048576 ≡ packStanding (standingAnswered w)
+unfolding packStanding standingAnswered
+stands-packed w s r k e h =
+    ap (λ (x : ℕ). x + k * 1048576) h ∙ ap (λ (a : StandingAnswer). packStanding (standingAnswered a)) (sym e)
 
 -- ---- runs, rounds and words
 

@@ -1,22 +1,25 @@
--- A record of a board by the tests that the code makes: the bytes without a field, the fields, the own register.
+-- A record of a board by the tests that the code makes: the bytes without a field, the fields, the steps, the own
+-- register.
 -- Relies on the layout, the model's laws of a record's parts and codec's of reads; the proofs of records rely on it.
-use Rattle.model.proofs.Kit.{_≡_, sym, ap, subst, _∙_, Bool, true, false, _&&_, List, [], _∷_, ℕ, suc, _+_, _≤_}
-use Rattle.model.proofs.Kit.{_<_, le-ltb, lit≤, T, length, w8, w64, Fits, mul-le-mul, lt-of-not-le, arith}
+use Rattle.model.proofs.Kit.{_≡_, sym, ap, subst, _∙_, Bool, true, false, _&&_, List, [], _∷_, ℕ, suc, _+_, _≤_, _<_}
+use Rattle.model.proofs.Kit.{le-ltb, leb→le, eq-eqb, eqb, lit≤, T, length, replicate, w8, w64, Fits, mul-le-mul}
+use Rattle.model.proofs.Kit.{lt-of-not-le, arith}
 use native.Mathlib.Decide.{decLe}
 use Rattle.model.specs.declared.Record.{Record}
-use Rattle.model.specs.Bytes.{byte, part, zeros}
+use Rattle.model.specs.Bytes.{byte, number, part, zeros}
 use Rattle.model.specs.Layout.{boardLength, recordAt, recordOf, readRecord, layRecord, recordValue, gapAt, gap}
 use Rattle.model.specs.Layout.{tailAt, tail}
 use Rattle.model.specs.Sound.{phaseKnown, positionInside, islandInside, bestInside, flagKnown, restZero, idleZero}
 use Rattle.model.specs.Sound.{collectZero, bestIslandZero, bestZero, seenKnown}
-use Rattle.model.specs.Sound.{fieldsSound, ownWritten, ownPassed, recordSound}
-use Rattle.model.proofs.Board.Codec.{station}
-use Rattle.model.proofs.Basics.Numbers.{Bytes}
-use Rattle.model.proofs.Basics.Tests.{and-false, and-l, and-r, and-i, true-T, no-T}
+use Rattle.model.specs.Sound.{fieldsSound, ownWritten, ownPassed, stepsKept, recordSound}
+use Rattle.model.proofs.Board.Codec.{station, length-record, steps-back}
+use Rattle.model.proofs.Basics.Numbers.{Bytes, number-digits}
+use Rattle.model.proofs.Basics.Tests.{and-false, and-l, and-r, and-i, true-T, no-T, zeros-is, implies-use}
 use Rattle.model.proofs.Basics.Parts.{part-Bytes}
 use Rattle.model.proofs.Basics.Splices.{length-part}
 use Rattle.model.proofs.Board.Canon.{laid-fields}
 use Rattle.model.proofs.Board.Places.{record-inside}
+use Rattle.figures.proofs.Laws.Zeros.{and-true}
 use Rattle.codec.proofs.Laws.Reads.{part-part}
 
 -- ---- one clause that fails
@@ -43,6 +46,25 @@ module _ (n K phase : ℕ) (r : List ℕ) where
       ap (λ (x : Bool). x && idleZero phase r && collectZero phase r && bestIslandZero phase r && bestZero phase r
       && seenKnown phase r)
       (sym (and-false flagged) ∙ ap (λ (y : Bool). flagged && y) (sym e))
+
+-- what passes has a known phase
+pub phase-inside : (n K : ℕ) (f : Record) → fieldsSound n K (f .phase) (layRecord f) ≡ true → f .phase ≤ 8
+unfolding fieldsSound phaseKnown
+phase-inside n K f e =
+    let t = true-T (fieldsSound n K (f .phase) (layRecord f)) e in
+    leb→le (f .phase) 8 (search (and-l, and-r) depth 12)
+
+-- and counts no step while it is idle
+pub idle-none : (n K : ℕ) (f : Record) → fieldsSound n K (f .phase) (layRecord f) ≡ true → f .steps < 65536
+    → f .phase ≡ 0 → f .steps ≡ 0
+unfolding fieldsSound idleZero readRecord number part
+idle-none n K f e few z =
+    let t = true-T (fieldsSound n K (f .phase) (layRecord f)) e in
+    let all = implies-use (eqb (f .phase) 0) (zeros (layRecord f)) (search (and-l, and-r) depth 12)
+    (true-T _ (eq-eqb (f .phase) 0 z)) in
+    sym (number-digits 2 (f .steps) few) ∙ sym (steps-back f)
+    ∙ ap (λ (l : List ℕ). readRecord l .steps)
+    (zeros-is (layRecord f) all ∙ ap (λ (k : ℕ). replicate k 0) (length-record f))
 
 pub island-inside : (n K : ℕ) (f : Record) → fieldsSound n K (f .phase) (layRecord f) ≡ true → f .island < K
 unfolding islandInside layRecord
@@ -114,6 +136,9 @@ module _ {n k i at : ℕ} {b : List ℕ} (p : Placed n k i at b) where
           (true-T _ (sym (zeros-in tailAt tail (lit≤ tt)) ∙ back))))
           ∙ ap layRecord (ap readRecord (sym here) ∙ sym read)
 
+      same : f ≡ readRecord (recordOf n k i b)
+      same = read ∙ ap readRecord here
+
       fields-is : fieldsSound n k (f .phase) (layRecord f)
           ≡ fieldsSound n k (byte (recordOf n k i b) 0) (recordOf n k i b)
       unfolding layRecord
@@ -123,17 +148,30 @@ module _ {n k i at : ℕ} {b : List ℕ} (p : Placed n k i at b) where
           → false ≡ recordSound n k i b (recordOf n k i b)
       fields-fail q = fails (sym fields-is ∙ q)
 
+      steps-are : stepsKept n (f .steps) (recordValue f)
+          ≡ stepsKept n (readRecord (recordOf n k i b) .steps) (station (recordOf n k i b))
+      steps-are = λ s. stepsKept n (same s .steps) (recordValue (same s))
+
+      pub steps-fail : stepsKept n (f .steps) (recordValue f) ≡ false
+          → false ≡ recordSound n k i b (recordOf n k i b)
+      unfolding recordSound
+      steps-fail q =
+          sym (no-T _ (λ (t : T (recordSound n k i b (recordOf n k i b))). let kept : T (stepsKept n
+          (readRecord (recordOf n k i b) .steps) (station (recordOf n k i b))) = search (and-l, and-r) in
+          subst T (sym steps-are ∙ q) kept))
+
       pub record-form : (a : Bool) → fieldsSound n k (f .phase) (layRecord f) ≡ true
+          → stepsKept n (f .steps) (recordValue f) ≡ true
           → a ≡ ownWritten n i b (recordValue f) && ownPassed i (recordValue f)
           → a ≡ recordSound n k i b (recordOf n k i b)
       unfolding recordSound
-      record-form a q h =
-          h ∙ (λ s. ownWritten n i b (recordValue (same s)) && ownPassed i (recordValue (same s)))
+      record-form a q m h =
+          h ∙ and-true _
+          ∙ (λ s. ownWritten n i b (recordValue (same s)) && ownPassed i (recordValue (same s))
+          && (sym m ∙ steps-are) s)
           ∙ ap (λ (x : Bool). x && ownWritten n i b (station (recordOf n k i b))
-          && ownPassed i (station (recordOf n k i b))) (sym (sym fields-is ∙ q))
-        where
-          same : f ≡ readRecord (recordOf n k i b)
-          same = read ∙ ap readRecord here
+          && ownPassed i (station (recordOf n k i b))
+          && stepsKept n (readRecord (recordOf n k i b) .steps) (station (recordOf n k i b))) (sym (sym fields-is ∙ q))
 
 -- the next record
 pub record-next : (n k i at : ℕ) → at ≡ recordAt n k i → at + 24 ≡ recordAt n k (i + 1)

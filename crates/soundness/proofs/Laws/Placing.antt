@@ -3,8 +3,8 @@
 use Rattle.model.proofs.Kit.{_≡_, sym, ap, subst, _∙_, List, none, some, ℕ, _+_, _-_, _≤_, length, getD, arith}
 use Rattle.model.specs.declared.Record.{Record}
 use Rattle.model.specs.Bytes.{part}
-use Rattle.model.specs.Layout.{boardLength, recordAt, readRecord, recordValue, recordOf, stationOf}
-use Rattle.model.specs.Calls.{Refusal, stations, islands, boardRefusal, stationRefusal, stationAt}
+use Rattle.model.specs.Layout.{boardLength, recordAt, readRecord, recordValue, recordOf, fieldsOf, stationOf}
+use Rattle.model.specs.Calls.{Refusal, stations, islands, boardRefusal, stationRefusal, stationAt, stepsTaken}
 use Rattle.model.proofs.Board.Places.{record-inside}
 use Rattle.model.proofs.Calls.Refusals.{board-of, station-12}
 use Rattle.soundness.specs.declared.place.Place.{Place}
@@ -79,10 +79,18 @@ module _ (i : ℕ) (b : List ℕ) where
   place-inside p j at e h = at-place p j at e h .inside
 
 -- the record that the code reads there is the station's
-pub own-value : (i : ℕ) (b : List ℕ) (j at : ℕ) → On i b j at → (f : Record) → f ≡ readRecord (part at 24 b)
-    → stationAt i b ≡ recordValue f
-unfolding stationAt stationOf recordOf stations islands
-own-value i b j at on f e =
-    let q : at ≡ recordAt (getD b 0 0) (getD b 1 0) (i - 1) = on .place
-    ∙ ap (recordAt (getD b 0 0) (getD b 1 0)) (on .index) in
-    ap recordValue (sym (e ∙ ap (λ (k : ℕ). readRecord (part k 24 b)) q))
+module _ (i : ℕ) (b : List ℕ) (j at : ℕ) (on : On i b j at) (f : Record) (e : f ≡ readRecord (part at 24 b)) where
+  own-record : f ≡ fieldsOf (stations b) (islands b) (i - 1) b
+  unfolding recordOf stations islands
+  own-record =
+      let q : at ≡ recordAt (getD b 0 0) (getD b 1 0) (i - 1) = on .place
+      ∙ ap (recordAt (getD b 0 0) (getD b 1 0)) (on .index) in
+      e ∙ ap (λ (k : ℕ). readRecord (part k 24 b)) q
+
+  pub own-value : stationAt i b ≡ recordValue f
+  unfolding stationAt stationOf
+  own-value = ap recordValue (sym own-record)
+
+  pub own-steps : f .steps ≡ stepsTaken i b
+  unfolding stepsTaken
+  own-steps = ap (λ (g : Record). g .steps) own-record

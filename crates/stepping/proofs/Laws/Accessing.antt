@@ -1,17 +1,17 @@
 -- An accepted step: where it reads and writes lies on the board, and what is put back is what the model's access puts.
 -- Relies on Ready, Putting, the promise of `move_station` and the model's access; the proof of `access` relies on it.
 use Rattle.model.proofs.Kit.{_≡_, refl, sym, ap, subst, _∙_, true, false, List, Option, ℕ, zero, suc, _+_, _≤_, _<_}
-use Rattle.model.proofs.Kit.{length, arith}
+use Rattle.model.proofs.Kit.{[], _∷_, none, some, length, arith}
 use Rattle.model.specs.declared.Record.{Record}
 use Rattle.model.specs.declared.Register as Fields
 use Rattle.model.specs.Bytes.{part, splice, digits}
 use Rattle.model.specs.Figure.{Figure, figures, figureBytes}
 use Rattle.model.specs.Listing.{Turn, turnM, turnA, turnB, Register, Stage, writing, reading, has-decided, is-spent}
-use Rattle.model.specs.Listing.{Station, active, move, placeArray, placeColumn}
+use Rattle.model.specs.Listing.{Station, active, Array, move, placeArray, placeColumn}
 use Rattle.model.specs.Layout.{registerAt, recordAt, readRegister, layRegister, registerValue, layRecord, recordFields}
 use Rattle.model.specs.Layout.{recordValue, writingOf, readingOf, ofPhase, registerOf, recordOf, readRecord}
-use Rattle.model.specs.Layout.{putChanges}
-use Rattle.model.specs.Calls.{putRecord, steppedRecord, access}
+use Rattle.model.specs.Layout.{putChanges, stepsIs, withSteps, boardLength}
+use Rattle.model.specs.Calls.{putRecord, putRegister, access}
 use Rattle.model.proofs.Board.Codec.{register}
 use Rattle.model.proofs.Basics.Tests.{clash}
 use Rattle.model.proofs.Basics.Splices.{length-splice, part-after}
@@ -19,11 +19,15 @@ use Rattle.model.proofs.Board.Places.{InBoard, register-inside, register-fits, 
 use Rattle.model.proofs.Board.Values.{array-inside}
 use Rattle.model.proofs.Listing.Going.{Going}
 use Rattle.model.proofs.Listing.Written.{read-writes}
+use Rattle.model.proofs.Board.Boards.{register-length, steps-over}
 use Rattle.model.proofs.Board.Changes.{put-back}
-use Rattle.codec.specs.Parts.{phasePart, collectedPart, startedPart}
+use Rattle.model.proofs.Calls.StepsTaken.{record-steps}
+use Rattle.codec.specs.Parts.{stepsRead, phasePart, collectedPart, startedPart}
 use Rattle.archipelago.specs.declared.Moved.{Moved}
 use Rattle.archipelago.specs.Advanced.{Ready, Written, Advanced, Moves}
-use Rattle.stepping.specs.Stepped.{Touches, Accesses, OnSize, Stands}
+use Rattle.model.specs.declared.StepAnswer.{StepAnswer}
+use Rattle.model.specs.Told.{told}
+use Rattle.stepping.specs.Stepped.{Touches, moveOn, Accesses, OnSize, Stands}
 use Rattle.stepping.proofs.Laws.Ready.{put-written, put-nothing}
 use Rattle.stepping.proofs.Laws.Putting.{write-changes, read-changes, move-changes}
 
@@ -121,34 +125,26 @@ module _ (n K j : ℕ) (f : Record) (b : List ℕ) (place at : ℕ) (g : Fields.
   own-column (has-decided c x) w q = refl
   own-column (is-spent c x) w q = refl
 
-  -- the record that the move leaves, over the one that stands on the board
-  left : (s : Stage Figure) → Advanced f (move figures n K s (registerOf n (placeArray s) (placeColumn j s) b)) m
-      → m .station ≡ steppedRecord n K j (f .proposal)
-      (move figures n K s (registerOf n (placeArray s) (placeColumn j s) b) .stage) b
-  unfolding recordOf
-  left s v =
-      v .station ∙ ap (recordFields _) (o .read ∙ ap (λ (k : ℕ). readRecord (part k 24 b)) (o .place))
-
   -- the whole record put back, after a write and after a read
   put-writing : (e d : List ℕ) → m .writes ≡ true → e ≡ splice place (layRegister (m .register)) b
       → d ≡ splice at (layRecord (m .station)) e
       → Accesses n K j f b (m .answer) d
-  unfolding Accesses Touches access putRecord
+  unfolding Accesses Touches putRecord
   put-writing e d q ee ed s es =
       let v = moved s es in
       let col = own-column s (v .written) q in
       let put = ee ∙ ap (λ (k : ℕ). splice k (layRegister (m .register)) b)
       (t s es ∙ ap (registerAt n (placeArray s)) col)
       ∙ sym (put-written n (placeArray s) j b m _ (v .written) q) in
-      (v .answer, ed ∙ (λ i. splice (o .place i) (layRecord (left s v i)) (put i)))
+      (v .answer, ed ∙ (λ i. splice (o .place i) (layRecord (v .station i)) (put i)))
 
   put-reading : (d : List ℕ) → m .writes ≡ false → d ≡ splice at (layRecord (m .station)) b
       → Accesses n K j f b (m .answer) d
-  unfolding Accesses Touches access putRecord
+  unfolding Accesses Touches putRecord
   put-reading d q ed s es =
       let v = moved s es in
       let put = sym (put-nothing n (placeArray s) j b m _ (v .written) q) in
-      (v .answer, ed ∙ (λ i. splice (o .place i) (layRecord (left s v i)) (put i)))
+      (v .answer, ed ∙ (λ i. splice (o .place i) (layRecord (v .station i)) (put i)))
 
   here : Standing n K j f
   here = standing n K j f h (z .own)
@@ -191,3 +187,41 @@ module _ (n K j : ℕ) (f : Record) (b : List ℕ) (place at : ℕ) (g : Fields.
       put-reading d q
       (ed ∙ put-back at b (record-fits n K j b at z (o .place)) _ f _ (o .laid)
       (read-changes n K f _ m (here .stage) laid (moved (here .stage) (here .stands)) q l))
+
+-- ---- one more in the steps, which makes the access the model's step
+
+put-length : (n K : ℕ) (b : List ℕ) → length b ≡ boardLength n K → (a : Array) → InBoard K a → (j : ℕ) → j < n
+    → (o : Option (Register Figure)) → length (putRegister n a j o b) ≡ boardLength n K
+unfolding putRegister
+put-length n K b len a inside j own none = len
+put-length n K b len a inside j own (some r) = register-length n K b len a inside j own r
+
+module _ (n K j at : ℕ) (f : Record) (b : List ℕ) (h : Ready n K f) (z : OnSize n K j b) (place : at ≡ recordAt n K j)
+    (read : f ≡ readRecord (part at 24 b)) where
+  -- the access leaves the steps as they were
+  pub steps-kept : f .steps ≤ 3264 → (r : StepAnswer) (d : List ℕ) → Accesses n K j f b r d → stepsRead at d ≡ f .steps
+  unfolding Accesses recordOf
+  steps-kept few r d a =
+      let s = standing n K j f h (z .own) in
+      let m = moveOn n K j (s .stage) b in
+      let len = put-length n K b (z .len) (placeArray (s .stage)) (s .inside) j (z .own) (m .written) in
+      (λ i. readRecord (part (place i) 24 (a (s .stage) (s .stands) .1 i)) .steps)
+      ∙ record-steps n K _ len j (z .own) (active (f .proposal) (m .stage)) f (omega arith)
+
+  pub counted : f .steps ≤ 3264 → (r : StepAnswer) (d e : List ℕ) → Accesses n K j f b r d
+      → e ≡ putChanges (stepsIs (stepsRead at d + 1) ∷ []) at d → (s : Standing n K j f)
+      → (told r ≡ access n K j (f .proposal) (s .stage) b .answer)
+      × (e ≡ access n K j (f .proposal) (s .stage) b .bytes)
+  unfolding Accesses access recordOf
+  counted few r d e a q s =
+      let m = moveOn n K j (s .stage) b in
+      let p = a (s .stage) (s .stands) in
+      let put = putRegister n (placeArray (s .stage)) j (m .written) b in
+      let len = put-length n K b (z .len) (placeArray (s .stage)) (s .inside) j (z .own) (m .written) in (
+        p .0,
+        q ∙ (λ i. putChanges (stepsIs (steps-kept few r d a i + 1) ∷ []) (place i) (p .1 i))
+            ∙ steps-over n K put len j (z .own) (active (f .proposal) (m .stage)) (f .steps + 1) f
+            ∙ ap (λ (g : Record). putRecord n K j (recordFields (active (f .proposal) (m .stage))
+            (withSteps (g .steps + 1) g)) put)
+            (read ∙ ap (λ (x : ℕ). readRecord (part x 24 b)) place),
+      )

@@ -9,7 +9,7 @@ use Rattle.model.specs.declared.StepAnswer.the-variants.{Refused}
 use Rattle.model.specs.Bytes.{byte, part}
 use Rattle.model.specs.Figure.{Figure}
 use Rattle.model.specs.Listing.{Station, idle, active, has-decided, is-spent, Answer, refused, accepted}
-use Rattle.model.specs.Layout.{readRecord, layRecord, ofPhase, recordValue, recordOf}
+use Rattle.model.specs.Layout.{recordAt, readRecord, layRecord, ofPhase, recordValue, recordOf, putChanges, stepsIs}
 use Rattle.model.specs.Sound.{fieldsSound, recordSound}
 use Rattle.model.specs.Calls.{After, Refusal, stations, islands, boardRefusal, stationRefusal, stationAt, unlessRefused}
 use Rattle.model.specs.Calls.{notGoing, access, stepped, stepOn}
@@ -21,14 +21,16 @@ use Rattle.model.proofs.Basics.Parts.{part-Bytes}
 use Rattle.model.proofs.Board.Canon.{bytes-record}
 use Rattle.model.proofs.Calls.Refusals.{board-of, OnBoard, station-passes}
 use Rattle.model.proofs.Calls.Accepted.{stepOn-access}
+use Rattle.model.proofs.Calls.StepsTaken.{steps-few}
 use Rattle.model.proofs.Calls.Refused.{access-accepts}
 use Rattle.soundness.specs.declared.place.Place.{Place}
 use Rattle.soundness.specs.declared.place.Place.the-variants as places
+use Rattle.codec.specs.Parts.{stepsRead}
 use Rattle.soundness.specs.Placed.{On, Placed}
 use Rattle.soundness.proofs.Laws.Placing.{at-place, not-placed, own-value}
 use Rattle.archipelago.specs.Advanced.{Ready}
 use Rattle.stepping.specs.Stepped.{Accesses, OnSize, Stands, Known, StepsOn}
-use Rattle.stepping.proofs.Laws.Accessing.{Standing, standing}
+use Rattle.stepping.proofs.Laws.Accessing.{Standing, standing, steps-kept, counted}
 use Rattle.stepping.proofs.Laws.Ready.{ready}
 
 -- the contents of a lent slice of bytes are bytes
@@ -118,10 +120,11 @@ module _ (n K j at : ℕ) (b : List ℕ) (k : Known n K j at b) where
   pub going-inside : at + 24 ≤ length b
   going-inside = k .on .inside
 
+  size-now : OnSize (getD b 0 0) (getD b 1 0) j b
+  size-now = record { stations = k .on .stations; islands = k .on .islands; own = k .on .own; len = k .on .len }
+
   pub going-size : OnSize n K j b
-  going-size =
-      as-read (λ n K. OnSize n K j b)
-      (record { stations = k .on .stations; islands = k .on .islands; own = k .on .own; len = k .on .len })
+  going-size = as-read (λ n K. OnSize n K j b) size-now
 
   module _ (f : Record) (e : f ≡ readRecord (part at 24 b)) (low : 1 ≤ getD b at 0) (high : getD b at 0 ≤ 6) where
     fields : T (fieldsSound (getD b 0 0) (getD b 1 0) (byte (part at 24 b) 0) (part at 24 b))
@@ -149,12 +152,31 @@ module _ (n K j at : ℕ) (b : List ℕ) (k : Known n K j at b) where
         as-read (λ n K. Stands n K j at f b)
         (record {
           place = k .on .place;
-          read = e;
           laid =
               sym (bytes-record (getD b 0 0) (getD b 1 0) _ (length-part at 24 b (k .on .inside))
               (part-Bytes at 24 b (all-bytes b (λ i. known i .fits))) fields)
               ∙ ap layRecord (sym e);
         })
+
+    -- a sound board has room for one step more
+    steps-low : f .steps ≤ 3264
+    unfolding stations islands recordOf
+    steps-low =
+        let few = steps-few b (board-of b none (k .sound) .0) j (k .on .own) in
+        omega (
+          arith,
+          few,
+          ap (λ (g : Record). g .steps) (e ∙ ap (λ (x : ℕ). readRecord (part x 24 b)) (k .on .place)),
+        )
+
+    pub steps-room : (r : StepAnswer) (d : List ℕ) → Accesses n K j f b r d → stepsRead at d < 65535
+    steps-room r d a =
+        omega (
+          arith,
+          steps-kept n K j at f b going-ready going-size (as-read (λ n K. at ≡ recordAt n K j) (k .on .place)) e
+              steps-low r d a,
+          steps-low,
+        )
 
     -- the stage that the record stands for
     here : Standing (getD b 0 0) (getD b 1 0) j f
@@ -166,15 +188,17 @@ module _ (n K j at : ℕ) (b : List ℕ) (k : Known n K j at b) where
         stepOn-access (j + 1) b (record { low = k .on .low; high = k .on .high }) (f .proposal) (here .stage)
         (own-value (j + 1) b j at (k .on) f e ∙ here .stands) (here .goes)
 
-    pub goes : (r : StepAnswer) (d : List ℕ) → Accesses n K j f b r d → StepsOn (j + 1) b r d
-    unfolding Accesses StepsOn
-    goes r d a =
+    pub goes : (r : StepAnswer) (d x : List ℕ) → Accesses n K j f b r d
+        → x ≡ putChanges (stepsIs (stepsRead at d + 1) ∷ []) at d → StepsOn (j + 1) b r x
+    unfolding StepsOn
+    goes r d x a q =
         let s = subst (λ (m : ℕ). Accesses m (getD b 1 0) j f b r d) (k .stations)
         (subst (λ (m : ℕ). Accesses n m j f b r d) (k .islands) a) in
-        let p = subst (λ (m : ℕ). Accesses (getD b 0 0) (getD b 1 0) m f b r d) (k .on .index) s (here .stage)
-        (here .stands) in (
-          p .0 ∙ ap (λ (x : After (Answer Figure)). x .answer) (sym accesses),
-          p .1 ∙ ap (λ (x : After (Answer Figure)). x .bytes) (sym accesses),
+        let p = subst (λ (m : ℕ). (told r ≡ access (getD b 0 0) (getD b 1 0) m (f .proposal) (here .stage) b .answer)
+        × (x ≡ access (getD b 0 0) (getD b 1 0) m (f .proposal) (here .stage) b .bytes)) (k .on .index)
+        (counted _ _ j at f b ready-now size-now (k .on .place) e steps-low r d x s q here) in (
+          p .0 ∙ ap (λ (y : After (Answer Figure)). y .answer) (sym accesses),
+          p .1 ∙ ap (λ (y : After (Answer Figure)). y .bytes) (sym accesses),
         )
 
     pub is-taken : accepted (stepOn (j + 1) b .answer) ≡ true

@@ -1,0 +1,29 @@
+-- The table of bounds on a station's steps: each row by computing the refusal of its boards.
+-- Relies on the definitions alone.
+use Rattle.model.proofs.Kit.{refl}
+use Rattle.model.specs.Bytes.{number, digits, part, splice, zeros, every, implies}
+use Rattle.model.specs.Figure.{figure, figureBytes, sameFigure, above, figures}
+use Rattle.model.specs.Listing.{array, placeArray, entry, pairAbove, flagOf, flagNumber}
+use Rattle.model.specs.Layout.{boardLength, rowOf, registerAt, recordAt, freshBoard, readRegister, layRegister}
+use Rattle.model.specs.Layout.{registerFields, registerValue, seenNumber, bestIsland, bestFigure, seenOf}
+use Rattle.model.specs.Layout.{writePhase, flagByte, readRecord, layRecord, changed, fields, recordFields}
+use Rattle.model.specs.Layout.{writingOf, readingOf, ofPhase, recordValue, registerOf, recordOf}
+use Rattle.model.specs.Sound.{headSound, registerSound, arraySound, registersSound, collecting, phaseKnown}
+use Rattle.model.specs.Sound.{positionInside, islandInside, bestInside, flagKnown, restZero, idleZero}
+use Rattle.model.specs.Sound.{collectZero, bestIslandZero, bestZero, seenKnown, sameRegister, ownWritten, ownSeen}
+use Rattle.model.specs.Sound.{ownPassed, turnsBefore, presentPass, islandOf, mostSteps, stepsKept, fieldsSound}
+use Rattle.model.specs.Sound.{recordSound, sound}
+use Rattle.model.specs.Calls.{unless, ranges, shapeRefusal, stations, islands, boardRefusal, putRecord}
+use Rattle.model.specs.Calls.{putRegister}
+use Rattle.model.specs.StepBounds.{StepBounds, row, rows, tested, hasWritten, counting, tailSet}
+
+pub step-bounds : StepBounds
+unfolding StepBounds rows row tested hasWritten counting tailSet number digits part splice zeros every implies figure
+    figureBytes sameFigure above figures array placeArray entry pairAbove flagOf flagNumber boardLength rowOf
+    registerAt recordAt freshBoard readRegister layRegister registerFields registerValue seenNumber bestIsland
+    bestFigure seenOf writePhase flagByte readRecord layRecord changed fields recordFields writingOf readingOf ofPhase
+    recordValue registerOf recordOf headSound registerSound arraySound registersSound collecting phaseKnown
+    positionInside islandInside bestInside flagKnown restZero idleZero collectZero bestIslandZero bestZero seenKnown
+    sameRegister ownWritten ownSeen ownPassed turnsBefore presentPass islandOf mostSteps stepsKept fieldsSound
+    recordSound sound unless ranges shapeRefusal stations islands boardRefusal putRecord putRegister
+step-bounds = (refl, refl, refl)

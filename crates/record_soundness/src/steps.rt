@@ -1,0 +1,27 @@
+// A record's steps against the most that its phase, island and position allow.
+// Relies on fields; records rely on it.
+ghost use mathlib.Core.Path.{_≡_};
+ghost use Prim.Native.Nat.{_≤_};
+ghost use Rattle.model.specs.Layout.{recordValue};
+ghost use Rattle.model.specs.Sound.{stepsKept};
+use crate::fields::is_collecting;
+use model::Record;
+
+// A turn is a write and n reads. The turns behind a station are three for each island that it has passed and those of its
+// present pass; in a collect there are its write and the reads before its position besides. A count of 0 is within every
+// bound, so that an idle station, whose count is 0, needs no test of its own.
+pub fn steps_sound(f: Record, n: usize) -> bool
+    requires { ⌜ (n ≤ 16) × (f .phase ≤ 8) × (f .phase ≡ 0 → f .steps ≡ 0) ⌝ }
+    ensures { λ r. ⌜ r ≡ stepsKept n (f .steps) (recordValue f) ⌝ }
+{
+    let steps = f.steps as usize;
+    if steps == 0 {
+        return true;
+    }
+    let turns = 3 * f.island as usize + (f.phase as usize - 1) / 2;
+    let behind = turns * (n + 1);
+    if is_collecting(f) {
+        return steps <= behind + 1 + f.position as usize;
+    }
+    steps <= behind
+}
