@@ -76,8 +76,8 @@ fn put_figure(board: &mut [u8], at: usize, v: i32)
     board[at + 3] = f[3];
 }
 
-// One more in the steps, where the rest of the record stands already. They are read here and not handed over, so that no
-// register holds them while a step goes on.
+// One more in the steps, where the rest of the record stands already. They are read here and not handed over, so that the
+// processor need not hold them while a step goes on.
 pub fn count_step(board: &mut [u8], at: usize)
     requires { ⌜ (at + 24 ≤ length (now board)) × (stepsRead at (now board) < 65535) ⌝ }
     ensures { λ _. ⌜ now (board .exit) ≡ putChanges (stepsIs (stepsRead at (now (board .entry)) + 1) ∷ []) at (now (board .entry)) ⌝ }

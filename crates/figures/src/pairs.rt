@@ -1,5 +1,5 @@
 // Numbers of two bytes, least significant first.
-// Relies on nothing of this crate; the codec of records relies on it.
+// Relies on the casts of a figure's bytes; the codec of records relies on it.
 ghost use mathlib.Core.Path.{_≡_};
 ghost use Prim.Native.Nat.{_+_, _≤_};
 ghost use lib.ListN.{length};
