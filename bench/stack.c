@@ -57,22 +57,25 @@ static uint64_t played(const char *text)
     return lufanelis_play_line((const uint8_t *)text, strlen(text), sizeof board, board, sizeof board, line, sizeof line);
 }
 
+/* A higher station has a higher figure, all of eleven characters. */
+static int32_t rising(int station) { return INT32_MIN + 16 - station; }
+
 /* All sixteen have proposed, and none has taken a step. */
 static void lay_other(void)
 {
     lufanelis_lay(other, sizeof other, 16, 64);
     for (int i = 1; i <= 16; i++)
-        lufanelis_propose(other, sizeof other, (uint8_t)i, INT32_MIN + i);
+        lufanelis_propose(other, sizeof other, (uint8_t)i, rising(i));
 }
 
-/* On the largest board: figures of eleven characters, and lines that go deepest. */
+/* On the largest board: rising figures, and lines that go deepest. */
 static void calls(void)
 {
     static const char word[] = "(propose 1 2)";
     MEASURE(lufanelis_lay(board, sizeof board, 16, 64));
-    MEASURE(lufanelis_propose(board, sizeof board, 1, INT32_MIN));
+    MEASURE(lufanelis_propose(board, sizeof board, 1, rising(1)));
     for (int i = 2; i <= 16; i++)
-        lufanelis_propose(board, sizeof board, (uint8_t)i, INT32_MIN + i);
+        lufanelis_propose(board, sizeof board, (uint8_t)i, rising(i));
     MEASURE(lufanelis_check(board, sizeof board));
     MEASURE(lufanelis_step(board, sizeof board, 1));
     MEASURE(lufanelis_standing(board, sizeof board, 16));

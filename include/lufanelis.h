@@ -13,9 +13,11 @@
  * behind it says; bytes that a call may write are lent by one of its pointers only; nobody else touches lent bytes until
  * the call returns.
  *
- * A *figure* is a signed 32-bit number. Stations are numbered from 1, islands from 0. A line that is handed back has fewer than
- * 512 bytes, and zeros after it up to 512; so it always ends in a zero byte, as a string of C does. The functions at the end
- * take answers apart. */
+ * A *figure* is a signed 32-bit number. Figures compare by their size without sign, and of two equal sizes the positive one is
+ * larger: 0, -1, 1, -2, 2 rise, and -2,147,483,648 is the largest of all. Stations are numbered from 1, islands from 0.
+ *
+ * A line that is handed back has fewer than 512 bytes, and zeros after it up to 512; so it always ends in a zero byte, as a
+ * string of C does. The functions at the end take answers apart. */
 #ifndef LUFANELIS_H
 #define LUFANELIS_H
 

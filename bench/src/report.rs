@@ -30,7 +30,7 @@ enum Column {
     EachRound(&'static str),
 }
 
-const COLUMNS: [(&str, Column); 9] = [
+const COLUMNS: [(&str, Column); 10] = [
     ("step taken in a run", Column::EachTaken("taken")),
     ("step refused in a run", Column::Each("refused")),
     ("run of 65,536", Column::Whole("run")),
@@ -40,6 +40,7 @@ const COLUMNS: [(&str, Column); 9] = [
     ("laying", Column::Whole("lay")),
     ("showing", Column::Whole("show")),
     ("soundness", Column::Whole("check")),
+    ("soundness amid collects", Column::Whole("check amid")),
 ];
 
 fn raw(all: &Numbers, engine: &str, n: u8, k: u8, what: &str) -> Option<f64> {

@@ -1,6 +1,7 @@
 //! Run sheets that ask for the most: as many lines as 32,768 bytes hold.
 
 use crate::work::MOST_ROUNDS;
+use reference::habits::rising_lines;
 use reference::sheet::LONGEST_SHEET;
 
 /// A line may count 65,536 steps, and only steps that are refused can be had so often. 24 bytes a line: 89 million steps.
@@ -26,14 +27,12 @@ fn contended() -> String {
 
 /// The largest board, on which all have decided.
 fn largest_done() -> String {
-    let proposals: String = (1..=16).map(|i| format!("(propose {i} {})\n", i32::MIN + i)).collect();
-    format!("(board 16 64)\n{proposals}(rounds 0 () () () () () ())\n")
+    format!("(board 16 64)\n{}(rounds 0 () () () () () ())\n", rising_lines())
 }
 
 /// A name, what comes first, and the line or lines that are repeated.
 fn kinds() -> [(&'static str, String, String); 5] {
-    let largest: String = (1..=16).map(|i| format!("(propose {i} {})\n", i32::MIN + i)).collect();
-    let largest = format!("(board 16 64)\n{largest}(steps 1 2 3 4 5 6 7 8 9 10 11 12 13 14 15 16)\n");
+    let largest = format!("(board 16 64)\n{}(steps 1 2 3 4 5 6 7 8 9 10 11 12 13 14 15 16)\n", rising_lines());
     [
         ("flat", SPENT.to_string(), FLAT.to_string()),
         ("nested", SPENT.to_string(), NESTED.to_string()),

@@ -139,6 +139,14 @@ fn round_lines(n: u8, k: u8) -> Vec<Case> {
     }
 }
 
+/// From the middle on every station reads all of A but its last register, so that all but the last station have passed
+/// their own: there the test of a board compares figures.
+fn amid(middle: &[u8], n: u8) -> Vec<u8> {
+    let mut steps = vec![1; n as usize - 1];
+    (2..=n).for_each(|station| steps.extend(vec![station; n as usize]));
+    after(middle, &steps)
+}
+
 /// Every call that is measured for one n and K.
 pub fn cases(n: u8, k: u8) -> Vec<Case> {
     let fresh = rising(n, k);
@@ -166,6 +174,9 @@ pub fn cases(n: u8, k: u8) -> Vec<Case> {
         Case::new("check fresh", &fresh, Call::Check),
         Case::new("check end", &end, Call::Check),
     ];
+    if n > 1 {
+        cases.push(Case::new("check amid", &amid(&middle, n), Call::Check));
+    }
     cases.extend(round_lines(n, k));
     cases.extend(kinds(n, k).into_iter().map(|case| Case { timed: false, ..case }));
     cases

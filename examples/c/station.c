@@ -17,7 +17,7 @@
 static const char *const kinds[] = {"", "wrote", "read", "went", "marked", "adopted", "decided", "spent"};
 
 /* What each station proposes; stations are numbered from 1. */
-static const int32_t figures[STATIONS + 1] = {0, -40, 15, INT32_MIN};
+static const int32_t figures[STATIONS + 1] = {0, -40, INT32_MIN, 15};
 
 /* The order in which the stations come to a turn, over and over. */
 static const uint8_t turns[] = {1, 3, 3, 1, 3, 1, 1, 3, 2, 2, 1, 2};

@@ -1,5 +1,5 @@
 /* Tries the functions of include/lufanelis.h that take an answer apart: on both ends of each part with the other parts empty
- * or full, and on answers of the calls themselves. One source for C99 and for C++.
+ * or full, and on answers of the calls themselves; and how figures compare. One source for C99 and for C++.
  * Relies on the header and the archive; tests/compare runs it. Tells what does not hold, and last 'N passed, M failed'. */
 #include <stdio.h>
 #include <stdlib.h>
@@ -136,6 +136,25 @@ static void alone(int32_t figure)
     HOLDS(stands_refused(sizeof board, 0, LUFANELIS_NO_SUCH_STATION));
     HOLDS(stands_refused(sizeof board, 3, LUFANELIS_NO_SUCH_STATION));
     HOLDS(stands_refused(sizeof board - 1, 1, LUFANELIS_BAD_BOARD_LENGTH));
+}
+
+/* Figures as the header says they rise: of each two, the higher one is what both stations go on with. */
+static void rise(void)
+{
+    static const int32_t rising[] = {0, -1, 1, -2, 2, -INT32_MAX, INT32_MAX, INT32_MIN};
+    static const uint8_t both[] = {1, 2, 1, 2, 1, 2};
+    size_t low, high;
+
+    for (high = 1; high < sizeof rising / sizeof *rising; high++) {
+        for (low = 0; low < high; low++) {
+            HOLDS(lufanelis_lay(board, sizeof board, 2, 2) == LUFANELIS_ACCEPTED);
+            HOLDS(lufanelis_propose(board, sizeof board, 1, rising[low]) == LUFANELIS_ACCEPTED);
+            HOLDS(lufanelis_propose(board, sizeof board, 2, rising[high]) == LUFANELIS_ACCEPTED);
+            HOLDS(lufanelis_run_taken(lufanelis_run(board, sizeof board, both, sizeof both)) == sizeof both);
+            HOLDS(stands(1, LUFANELIS_STANDS_GOING, 0, rising[high], 3));
+            HOLDS(stands(2, LUFANELIS_STANDS_GOING, 0, rising[high], 3));
+        }
+    }
 }
 
 /* Two stations that circle until they are spent; the last step of each island is looked at. */
@@ -325,6 +344,7 @@ int main(void)
     alone(INT32_MIN);
     alone(INT32_MAX);
     alone(-1);
+    rise();
     circling();
     runs();
     rounds();

@@ -2,6 +2,7 @@
 //! is not needed. `reference` decodes the whole board for every call, so its counts are mostly the price of its shape;
 //! these are the ones that a goal is held against. `bench compare` holds them against `reference` before they are measured.
 
+mod order;
 mod rounds;
 mod sound;
 mod step;

@@ -1,5 +1,6 @@
 //! The test of a lent board, in one pass over its bytes.
 
+use super::order::{above, pair_above};
 use super::{cell, cell_at, collects, figure, fits, records_at, steps, word, RECORD};
 
 /// Refusals 7 to 11, and n and K of a sound board.
@@ -95,8 +96,8 @@ fn own_sound(cells: &[u8], r: &[u8; RECORD], n: usize, who: usize) -> bool {
     }
     seen != 0
         && match phase {
-            2 => (best_island, best) >= (island, carried),
-            4 => best >= carried,
+            2 => !pair_above((island, carried), (best_island, best)),
+            4 => !above(carried, best),
             _ => true,
         }
 }

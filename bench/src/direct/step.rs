@@ -1,5 +1,6 @@
 //! One step on a board that is known to be sound.
 
+use super::order::{above, pair_above};
 use super::{cell, cell_at, collects, figure, steps, word, RECORD};
 
 fn told(kind: u64, place: u8, figure: i32) -> u64 {
@@ -42,23 +43,37 @@ pub fn step_on(cells: &mut [u8], records: &mut [u8], n: usize, k: usize, station
     finish(r, phase, k)
 }
 
-/// One filled register added to what the collect has seen.
+/// One filled register added to what the collect has seen, which is written where it changes.
 fn see(r: &mut [u8; RECORD], phase: u8, read: u64) {
     let (mark, island, value) = (read as u8, (read >> 8) as u8, (read >> 32) as u32 as i32);
-    let best = figure(r, 16);
-    let (seen, above) = match (phase, r[3]) {
-        (6, 0) => (mark, true),
-        (6, 1) if mark == 1 => (1, value > best),
-        (6, 1) => (3, true),
-        (6, 2) => (if mark == 2 && value == best { 2 } else { 3 }, false),
-        (6, seen) => (seen, false),
-        (_, 0) => (1, true),
-        (2, seen) => (seen, (island, value) > (r[4], best)),
-        (_, 1) => (if value == best { 1 } else { 2 }, value > best),
-        (_, seen) => (seen, value > best),
+    let (seen, best) = (r[3], figure(r, 16));
+    let larger = match (seen, phase) {
+        (0, 6) => {
+            r[3] = mark;
+            true
+        }
+        (0, _) => {
+            r[3] = 1;
+            true
+        }
+        (_, 2) => pair_above((island, value), (r[4], best)),
+        (1, 4) if value == best => false,
+        (_, 4) => {
+            r[3] = 2;
+            above(value, best)
+        }
+        (1, _) if mark == 1 => above(value, best),
+        (1, _) => {
+            r[3] = 3;
+            true
+        }
+        (2, _) if mark == 2 && value == best => false,
+        _ => {
+            r[3] = 3;
+            false
+        }
     };
-    r[3] = seen;
-    if above {
+    if larger {
         r[4] = island;
         r[16..20].copy_from_slice(&value.to_le_bytes());
     }

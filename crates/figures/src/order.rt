@@ -11,10 +11,15 @@ pub fn same(x: i32, y: i32) -> bool
     x == y
 }
 
+// By size, and of two equal sizes the positive: of two figures that differ it is the greater number, or the lesser where
+// their sum is negative. It is negative where y is at most −x − 1, which is `!x` and always fits.
 pub fn above(x: i32, y: i32) -> bool
     ensures { λ r. ⌜ r ≡ figure.above x y ⌝ }
 {
-    y < x
+    if x == y {
+        return false;
+    }
+    (y < x) != (y <= !x)
 }
 
 pub fn larger(x: i32, y: i32) -> i32

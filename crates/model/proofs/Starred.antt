@@ -1,7 +1,7 @@
 -- The starred runs: each row of the table by computing both sides.
 -- Relies on the definitions alone.
 use Rattle.model.proofs.Kit.{refl}
-use Rattle.model.specs.Starred.{Starred, Holds, rows, sheet, asLines, layIn}
+use Rattle.model.specs.Starred.{Starred, Holds, rise, rows, sheet, asLines, layIn}
 use Rattle.model.specs.Bytes.{number, digits, part, splice, zeros, every, count, implies, onFirst, endedBy}
 use Rattle.model.specs.Figure.{figure, figureBytes, sameFigure, above, figures}
 use Rattle.model.specs.Listing.{array, placeArray, placeColumn, accepted, outcome, entry, proposed, stay, onward}
@@ -38,7 +38,7 @@ use Rattle.model.specs.Sheet.{playBoard, onBoard, playForm, playReading,
 use Rattle.model.specs.Sheet.{playSheet}
 
 pub starred : Starred
-unfolding Starred Holds rows sheet asLines layIn number digits part splice zeros every implies figure figureBytes
+unfolding Starred Holds rise rows sheet asLines layIn number digits part splice zeros every implies figure figureBytes
     sameFigure above figures array placeArray placeColumn accepted entry proposed stay onward finish ended larger
     pairAbove add see move flagOf flagNumber boardLength rowOf registerAt recordAt freshBoard readRegister layRegister
     registerFields registerValue seenNumber bestIsland bestFigure seenOf writePhase flagByte readRecord layRecord

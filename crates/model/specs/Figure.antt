@@ -1,6 +1,7 @@
 -- Figures: signed 32-bit whole numbers, as two's complement bytes, and their order.
 -- Relies on Bytes; the layout, soundness and the calls rely on it.
-use Rattle.model.specs.Kit.{Bool, false, List, ℕ, eqb, ℤ, pos, negsuc}
+use Rattle.model.specs.Kit.{Bool, false, _&&_, _||_, List, ℕ, eqb, ltb, ℤ, pos, negsuc}
+use lib.IntN.{natAbs}
 use lib.Signed.{ltZ}
 use mir.Syntax.{w32}
 use mir.Val.{toZ, ofZ}
@@ -26,9 +27,11 @@ sameFigure (pos a) (negsuc b) = false
 sameFigure (negsuc a) (pos b) = false
 sameFigure (negsuc a) (negsuc b) = eqb a b
 
--- "Figures compare as signed numbers." x is above y. This is the one place that knows the order.
+-- "a correction counts by its size without sign; of two equal sizes the positive is larger. So 0, −1, 1, −2, 2 rise."
+-- x is above y: y has the lesser size (`natAbs`), or they have one size and x, the greater number, is the positive one.
+-- This is the one place that knows the order.
 unfoldable pub above : Figure → Figure → Bool
-above x y = ltZ y x
+above x y = ltb (natAbs y) (natAbs x) || (eqb (natAbs y) (natAbs x) && ltZ y x)
 
 -- what the listing asks of figures
 unfoldable pub figures : Order Figure

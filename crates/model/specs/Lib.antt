@@ -4,6 +4,7 @@ pub mod Bytes
 pub mod Listing
 pub mod Collects
 pub mod Figure
+pub mod BySize
 pub mod Layout
 pub mod Sound
 pub mod Calls

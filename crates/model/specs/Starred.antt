@@ -1,9 +1,10 @@
 -- The starred runs of 01 as one table: a row is what the definitions give and what 01 says they give.
 -- Relies on the sheet, the laying and the order; proofs/Starred.antt proves the one statement `Starred`.
-use Rattle.model.specs.Kit.{Bool, true, List, [], _∷_, _++_, none, some, ℕ, length, replicate}
+use Rattle.model.specs.Kit.{Bool, true, _&&_, List, [], _∷_, _++_, none, some, ℕ, length, replicate, pos}
+use Rattle.model.specs.Kit.{negsuc}
 use mathlib.Core.Path.{_≡_}
 use Prim.Native.String.{String}
-use Rattle.model.specs.Figure.{figure, above}
+use Rattle.model.specs.Figure.{Figure, figure, above}
 use Rattle.model.specs.Calls.{After, Refusal, lay}
 use Rattle.model.specs.Show.{text}
 use Rattle.model.specs.Sheet.{playSheet}
@@ -34,9 +35,16 @@ pub record Row : Type 0 where
 unfoldable pub sheet : (lines printed : List String) → Row
 sheet lines printed = record { gives = prints (playSheet (asLines lines)); says = prints (asLines printed) }
 
+-- each figure is above the one before it
+unfoldable pub rise : List Figure → Bool
+rise [] = true
+rise (x ∷ []) = true
+rise (x ∷ y ∷ ys) = above y x && rise (y ∷ ys)
+
 unfoldable pub rows : List Row
 rows =
-    -- "This sheet, given to the program .. prints"
+    -- "This sheet, given to the program .. prints", and of 02: "the sixth answer becomes `(ran 12 12)` and the seventh
+    -- shows `(2 decided 0 -40)`"
     sheet (
     "(board 3 2)" ∷ "(propose 1 -40)" ∷ "(propose 2 15)" ∷ "(steps (times 12 1))" ∷ "(show)" ∷ "(steps (times 24 2))"
     ∷ "(show)"
@@ -44,7 +52,7 @@ rows =
     ) (
     "(laid 3 2)" ∷ "(proposed 1 -40)" ∷ "(proposed 2 15)" ∷ "(ran 12 0)"
     ∷ "(stations (1 decided 0 -40) (2 going 0 15) (3 idle))"
-    ∷ "(ran 24 0)" ∷ "(stations (1 decided 0 -40) (2 decided 1 -40) (3 idle))" ∷ "(ran 0 4)" ∷ []
+    ∷ "(ran 12 12)" ∷ "(stations (1 decided 0 -40) (2 decided 0 -40) (3 idle))" ∷ "(ran 0 4)" ∷ []
     )
     -- "n = 2, K = 2, proposals 7 and 3: `(steps (times 2 (times 3 2) (times 3 1) (times 3 2) (times 6 1) (times 3 2)))`
     -- gives `(ran 36 0)`, then `(1 spent 1 7) (2 spent 1 3)`."
@@ -90,15 +98,13 @@ rows =
     ∷ record { gives = layIn 16903 16 64; says = turnedDown 10 }
     ∷ record { gives = layIn 16904 17 64; says = turnedDown 8 }
     ∷ record { gives = layIn 72 1 1; says = turnedDown 9 }
-    -- "−2,147,483,648 is below −1; 2,147,483,647 is above 0", each from its bytes in two's complement
+    -- "−2,147,483,648 is above 2,147,483,647", each from its bytes in two's complement
     ∷ record {
-      gives = compared (above (figure (255 ∷ 255 ∷ 255 ∷ 255 ∷ [])) (figure (0 ∷ 0 ∷ 0 ∷ 128 ∷ [])));
+      gives = compared (above (figure (0 ∷ 0 ∷ 0 ∷ 128 ∷ [])) (figure (255 ∷ 255 ∷ 255 ∷ 127 ∷ [])));
       says = compared true;
     }
-    ∷ record {
-      gives = compared (above (figure (255 ∷ 255 ∷ 255 ∷ 127 ∷ [])) (figure (0 ∷ 0 ∷ 0 ∷ 0 ∷ [])));
-      says = compared true;
-    }
+    -- not starred: "0, −1, 1, −2, 2 rise"
+    ∷ record { gives = compared (rise (pos 0 ∷ negsuc 0 ∷ pos 1 ∷ negsuc 1 ∷ pos 2 ∷ [])); says = compared true }
     ∷ []
 
 unfoldable pub Holds : List Row → Type 0

@@ -1,12 +1,13 @@
 //! Which calls are compared: every kind of call on fresh, reached, sound, damaged and hostile boards, lists of calls and
 //! long runs. `round_batches` has what is made of rounds alone, `count_batches` what is made of counted steps,
-//! `line_batches` the lines of sheets.
+//! `order_batches` what is made of figures beside each other, `line_batches` the lines of sheets.
 
 use crate::boards;
 use crate::bytes::length;
 use crate::compare::{Call, Compare};
 use crate::count_batches::SIZES;
 use crate::engine::SHOWN;
+use crate::figure::EDGES;
 use crate::halts::ROUND_END;
 use crate::lent::{pattern, Lent};
 use crate::lists;
@@ -207,6 +208,7 @@ impl Compare<'_> {
             self.sound_board(seed.wrapping_mul(64) + part);
             self.damaged_board(seed.wrapping_mul(64) + 32 + part);
             self.counted_board(seed.wrapping_mul(64) + 48 + part);
+            self.ordered_board(seed.wrapping_mul(64) + 56 + part);
         }
         if seed % 16 == 0 {
             self.lines(seed);
@@ -220,6 +222,7 @@ impl Compare<'_> {
             self.many_rounds(seed);
             SIZES.iter().for_each(|size| self.every_tail(seed, *size));
             self.most_counted(seed);
+            EDGES.iter().for_each(|figure| self.every_pair(seed, *figure));
         }
     }
 }

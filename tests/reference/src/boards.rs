@@ -1,6 +1,7 @@
 //! Boards made at random: sound ones that no run need reach, damaged ones, hostile ones.
 
 use crate::bytes::{length, Cell, Fields, Record};
+use crate::figure::Figure;
 use crate::model::Rows;
 use crate::random::Random;
 use crate::sound::most_steps;
@@ -85,15 +86,15 @@ fn record(r: &mut Random, who: usize, k: u8, place: Place) -> Record {
     if seen == 0 {
         return Record { next, ..plain };
     }
-    let mut best_island = if phase == 2 { r.below(k as usize) as u8 } else { 0 };
-    let mut best = r.figure();
-    if passed && phase == 2 && (best_island, best) < (island, plain.carried) {
-        (best_island, best) = (island, plain.carried);
-    }
-    if passed && phase == 4 {
-        best = best.max(plain.carried);
-    }
-    Record { next, seen, best_island, best, ..plain }
+    let best_island = if phase == 2 { r.below(k as usize) as u8 } else { 0 };
+    let drawn = (best_island, Figure::of(r.figure()));
+    let wrote = Figure::of(plain.carried);
+    let (best_island, best) = match phase {
+        2 if passed => drawn.max((island, wrote)),
+        4 if passed => drawn.max((0, wrote)),
+        _ => drawn,
+    };
+    Record { next, seen, best_island, best: best.number(), ..plain }
 }
 
 /// A count of steps that soundness allows: often at its ends, or where the low byte is full.

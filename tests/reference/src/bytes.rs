@@ -2,6 +2,7 @@
 //!
 //! Fields are what any bytes of the right length have, sound or not. Values are what a sound board means.
 
+use crate::figure::Figure;
 use crate::model::{first_commit, largest, one_figure, only_commit};
 use crate::model::{Collect, Entry, Life, Mark, Register, Rows, Station, World};
 
@@ -147,7 +148,7 @@ enum Array {
     B,
 }
 
-fn entry(array: Array, mark: u8, island: u8, figure: i64) -> Entry {
+fn entry(array: Array, mark: u8, island: u8, figure: Figure) -> Entry {
     let mark = match (array, mark) {
         (Array::B, 1) => Mark::Adopt,
         (Array::B, _) => Mark::Commit,
@@ -157,13 +158,13 @@ fn entry(array: Array, mark: u8, island: u8, figure: i64) -> Entry {
 }
 
 fn register(array: Array, cell: &Cell) -> Register {
-    (cell.mark != 0).then(|| entry(array, cell.mark, cell.island, cell.figure as i64))
+    (cell.mark != 0).then(|| entry(array, cell.mark, cell.island, Figure::of(cell.figure)))
 }
 
 fn cell(register: &Register) -> Cell {
     match register {
         None => Cell::default(),
-        Some(e) => Cell { mark: mark_byte(e.mark), island: e.island, zeros: [0; 2], figure: e.figure as i32 },
+        Some(e) => Cell { mark: mark_byte(e.mark), island: e.island, zeros: [0; 2], figure: e.figure.number() },
     }
 }
 
@@ -176,8 +177,8 @@ pub fn mark_byte(mark: Mark) -> u8 {
 
 /// The record is taken at its word for what was read before: this is a shortest list of readings that it sums up.
 fn heard(array: Array, r: &Record) -> Vec<Entry> {
-    let best = |mark| entry(array, mark, r.best_island, r.best as i64);
-    let lower = entry(array, 1, 0, r.best as i64 - 1);
+    let best = |mark| entry(array, mark, r.best_island, Figure::of(r.best));
+    let lower = entry(array, 1, 0, Figure::Lower);
     match (array, r.seen) {
         (_, 0) => vec![],
         (Array::M, _) => vec![best(1)],
@@ -198,11 +199,11 @@ fn summary(array: Array, heard: &[Entry]) -> (u8, u8, i32) {
         (Array::B, None) => (1, top),
         (Array::B, Some(commit)) => (if only_commit(heard, commit) { 2 } else { 3 }, commit),
     };
-    (seen, best.island, best.figure as i32)
+    (seen, best.island, best.figure.number())
 }
 
 fn station(r: &Record) -> Station {
-    let life = Life { proposal: r.proposal as i64, island: r.island, carried: r.carried as i64 };
+    let life = Life { proposal: r.proposal, island: r.island, carried: r.carried };
     let flag = if r.flag == 2 { Mark::Commit } else { Mark::Adopt };
     let collect = |array| Collect { next: r.next as usize, heard: heard(array, r) };
     match r.phase {
@@ -233,8 +234,7 @@ fn record(station: &Station) -> Record {
 }
 
 fn plain(phase: u8, l: &Life) -> Record {
-    let (proposal, carried) = (l.proposal as i32, l.carried as i32);
-    Record { phase, island: l.island, proposal, carried, ..Record::default() }
+    Record { phase, island: l.island, proposal: l.proposal, carried: l.carried, ..Record::default() }
 }
 
 fn reading(r: Record, array: Array, c: &Collect) -> Record {

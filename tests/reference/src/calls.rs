@@ -61,7 +61,7 @@ pub fn lay(board: &mut [u8], n: u8, k: u8) -> Result<(), Refusal> {
 pub fn propose(board: &mut [u8], station: u8, figure: i32) -> Result<(), Refusal> {
     let mut world = opened(board)?;
     let who = world.place(station)?;
-    world.propose(who, figure as i64)?;
+    world.propose(who, figure)?;
     closed(board, &world);
     Ok(())
 }

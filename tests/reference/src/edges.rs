@@ -1,6 +1,6 @@
 //! Sheets that stand at the edges which the document names, each with a name.
 
-use crate::round_edges;
+use crate::{order_edges, round_edges};
 
 pub struct Edge {
     pub name: &'static str,
@@ -65,6 +65,7 @@ pub fn edges() -> Vec<Edge> {
     all.extend(bytes());
     all.extend(starred());
     all.extend(round_edges::edges());
+    all.extend(order_edges::edges());
     all
 }
 

@@ -40,11 +40,11 @@ fn number(result: Result<(), Refusal>) -> u8 {
     result.map_or_else(Refusal::number, |()| 0)
 }
 
-fn packed(kind: u64, place: u8, figure: i64) -> u64 {
-    kind << 8 | (place as u64) << 16 | (figure as i32 as u32 as u64) << 32
+fn packed(kind: u64, place: u8, figure: i32) -> u64 {
+    kind << 8 | (place as u64) << 16 | (figure as u32 as u64) << 32
 }
 
-fn packed_answer(answer: Answer) -> u64 {
+pub fn packed_answer(answer: Answer) -> u64 {
     match answer {
         Answer::Wrote => packed(1, 0, 0),
         Answer::Read => packed(2, 0, 0),
@@ -63,7 +63,7 @@ fn packed_standing((standing, steps): (Standing, u16)) -> u64 {
         Standing::Decided(c, v) => (3, c, v),
         Standing::Spent(c, v) => (4, c, v),
     };
-    kind << 8 | (island as u64) << 12 | (steps as u64) << 20 | (figure as i32 as u32 as u64) << 32
+    kind << 8 | (island as u64) << 12 | (steps as u64) << 20 | (figure as u32 as u64) << 32
 }
 
 /// "512 bytes, zeros after the line"; the bytes behind them stay.

@@ -48,12 +48,33 @@ fn circling(r: &mut Random, n: u8, count: usize) -> Vec<Vec<u8>> {
     all.map(|named| named.iter().copied().filter(|s| *s <= n).collect()).collect()
 }
 
-/// A fresh board on which every station has proposed: a higher station a higher figure, all of eleven characters.
+/// What the stations propose: one figure above equal ones, with which some habits keep them from deciding, or any.
+pub fn figures(r: &mut Random, n: u8, one_above: bool) -> Vec<i32> {
+    let [low, high] = r.two_figures();
+    let figure = |station| match one_above {
+        true if station == n => high,
+        true => low,
+        false => r.figure(),
+    };
+    (1..=n).map(figure).collect()
+}
+
+/// A higher station has a higher figure, all of eleven characters; that of station 16 is the largest of all.
+fn rising_figure(station: u8) -> i32 {
+    i32::MIN + 16 - station as i32
+}
+
+/// All of sixteen stations propose these, as lines of a sheet.
+pub fn rising_lines() -> String {
+    (1..=16).map(|i| format!("(propose {i} {})\n", rising_figure(i))).collect()
+}
+
+/// A fresh board on which every station has proposed one of these.
 pub fn rising(n: u8, k: u8) -> Vec<u8> {
     let mut board = vec![0; length(n, k)];
     calls::lay(&mut board, n, k).expect("the sizes are in range");
     for station in 1..=n {
-        calls::propose(&mut board, station, i32::MIN + station as i32).expect("it is idle");
+        calls::propose(&mut board, station, rising_figure(station)).expect("it is idle");
     }
     board
 }
@@ -163,9 +184,8 @@ pub fn twins(seed: u64) -> [Vec<u8>; 2] {
     let (n, k) = r.size();
     let mut head = vec![format!("(board {n} {k})")];
     let one_above = r.once_in(2);
-    for i in 1..=n {
-        let figure = if one_above { (i == n) as i32 } else { r.figure() };
-        head.push(format!("(propose {i} {figure})"));
+    for (at, figure) in figures(&mut r, n, one_above).iter().enumerate() {
+        head.push(format!("(propose {} {figure})", at + 1));
     }
     let mut sheets = [head.clone(), head];
     for _ in 0..r.between(1, 8) {
@@ -185,6 +205,14 @@ pub fn twins(seed: u64) -> [Vec<u8>; 2] {
 #[cfg(test)]
 mod tests {
     use super::*;
+    use crate::figure::Figure;
+
+    #[test]
+    fn figures_that_rise() {
+        let figures: Vec<i32> = (1..=16).map(rising_figure).collect();
+        assert!(figures.windows(2).all(|two| Figure::of(two[0]) < Figure::of(two[1])));
+        assert!(figures.iter().all(|v| v.to_string().len() == 11) && figures[15] == i32::MIN);
+    }
 
     #[test]
     fn twins_show_the_same() {

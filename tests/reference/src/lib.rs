@@ -1,9 +1,9 @@
 //! The public document once more, in another language and in another shape.
 //!
 //! `model` has the two algorithms of the listing on values: a register is an `Option`, a collect is the list of what
-//! was read. `bytes` turns a board of bytes into fields and fields into values, and back. `sound` lists the clauses
-//! of soundness, `halts` has the rounds in which stations are suspended. `calls` are the library's calls, `sheet` the
-//! program's. The rest makes boards and sheets to compare.
+//! was read. `figure` has the order of figures. `bytes` turns a board of bytes into fields and fields into values, and
+//! back. `sound` lists the clauses of soundness, `halts` has the rounds in which stations are suspended. `calls` are the
+//! library's calls, `sheet` the program's. The rest makes boards and sheets to compare.
 
 pub mod batches;
 pub mod boards;
@@ -13,12 +13,15 @@ pub mod compare;
 pub mod count_batches;
 pub mod edges;
 pub mod engine;
+pub mod figure;
 pub mod habits;
 pub mod halts;
 pub mod lent;
 pub mod line_batches;
 pub mod lists;
 pub mod model;
+pub mod order_batches;
+pub mod order_edges;
 pub mod program;
 pub mod random;
 pub mod reach;

@@ -80,8 +80,9 @@ pub fn make(seed: u64) -> List {
 fn circle(r: &mut Random, list: &mut List) {
     let high = r.between(1, list.n as usize) as u8;
     let low = high % list.n + 1;
-    list.calls.push(Call::Propose(high, 7));
-    list.calls.push(Call::Propose(low, 3));
+    let [lower, higher] = r.two_figures();
+    list.calls.push(Call::Propose(high, higher));
+    list.calls.push(Call::Propose(low, lower));
     let islands = list.k as usize - r.pick(&[0, 1, 1, 1, 2]).min(list.k as usize);
     for _ in 0..islands {
         for (station, turns) in [(low, 1), (high, 1), (low, 1), (high, 2), (low, 1)] {
@@ -174,7 +175,7 @@ fn spelled_out(board: &mut [u8], halts: &Halts, deeds: &mut [Deeds]) {
 fn note(deeds: &mut Deeds, answer: Answer) {
     deeds.stepped = true;
     match answer {
-        Answer::Decided(_, v) => deeds.decided = Some(v as i32),
+        Answer::Decided(_, v) => deeds.decided = Some(v),
         Answer::Spent(..) => deeds.spent = true,
         _ => {}
     }
@@ -192,7 +193,7 @@ fn alone(board: &mut [u8], station: u8, figure: i32) -> Option<i32> {
     calls::propose(board, station, figure).ok()?;
     loop {
         match calls::step(board, station).ok()? {
-            Answer::Decided(_, v) => return Some(v as i32),
+            Answer::Decided(_, v) => return Some(v),
             Answer::Spent(..) => return None,
             _ => {}
         }
@@ -251,7 +252,7 @@ mod tests {
     #[test]
     fn some_lists_have_rounds() {
         let mut played = [0; 20];
-        for list in (0..300).map(make) {
+        for list in (0..600).map(make) {
             let mut board = vec![0; length(list.n, list.k)];
             calls::lay(&mut board, list.n, list.k).expect("the sizes are in range");
             for call in &list.calls {

@@ -2,11 +2,8 @@
 //!
 //! Nothing here knows how a board is laid out in bytes. Line numbers are those of the listing in source 001.
 
+use crate::figure::Figure;
 use crate::refusal::Refusal;
-
-/// Figures are kept in 64 bits, because a board may say that different figures were read of which the largest is the
-/// lowest figure there is. A list of readings that says so needs one lower still.
-pub type Figure = i64;
 
 #[derive(Clone, Copy, PartialEq, Eq, Debug)]
 pub enum Mark {
@@ -35,9 +32,9 @@ pub struct Collect {
 /// What a station has with it in every phase after its proposal.
 #[derive(Clone, Copy, PartialEq, Eq, Debug)]
 pub struct Life {
-    pub proposal: Figure,
+    pub proposal: i32,
     pub island: u8,
-    pub carried: Figure,
+    pub carried: i32,
 }
 
 #[derive(Clone, PartialEq, Eq, Debug)]
@@ -57,9 +54,9 @@ pub enum Station {
 #[derive(Clone, Copy, PartialEq, Eq, Debug)]
 pub enum Standing {
     Idle,
-    Going(u8, Figure),
-    Decided(u8, Figure),
-    Spent(u8, Figure),
+    Going(u8, i32),
+    Decided(u8, i32),
+    Spent(u8, i32),
 }
 
 impl Station {
@@ -81,11 +78,11 @@ impl Station {
 pub enum Answer {
     Wrote,
     Read,
-    Went(u8, Figure),
-    Marked(Mark, Figure),
-    Adopted(u8, Figure),
-    Decided(u8, Figure),
-    Spent(u8, Figure),
+    Went(u8, i32),
+    Marked(Mark, i32),
+    Adopted(u8, i32),
+    Decided(u8, i32),
+    Spent(u8, i32),
 }
 
 /// A row per island, a place per station. One list behind it, because boards are taken apart for every call.
@@ -154,17 +151,17 @@ pub fn only_commit(heard: &[Entry], commit: Entry) -> bool {
 }
 
 /// Lines 7 to 9: the flag and figure to write to B.
-fn after_a(heard: &[Entry]) -> (Mark, Figure) {
-    let best = largest(heard).expect("a sound collect has its own register").figure;
+fn after_a(heard: &[Entry]) -> (Mark, i32) {
+    let best = largest(heard).expect("a sound collect has its own register").figure.number();
     (if one_figure(heard) { Mark::Commit } else { Mark::Adopt }, best)
 }
 
 /// Lines 11 to 14: what the object returns.
-fn after_b(heard: &[Entry]) -> (Mark, Figure) {
+fn after_b(heard: &[Entry]) -> (Mark, i32) {
     match first_commit(heard) {
-        Some(commit) if only_commit(heard, commit) => (Mark::Commit, commit.figure),
-        Some(commit) => (Mark::Adopt, commit.figure),
-        None => (Mark::Adopt, largest(heard).expect("a sound collect has its own register").figure),
+        Some(commit) if only_commit(heard, commit) => (Mark::Commit, commit.figure.number()),
+        Some(commit) => (Mark::Adopt, commit.figure.number()),
+        None => (Mark::Adopt, largest(heard).expect("a sound collect has its own register").figure.number()),
     }
 }
 
@@ -193,7 +190,7 @@ impl World {
     }
 
     /// "A proposal sets an idle station to phase 1, c = 0, proposal and carried = the figure."
-    pub fn propose(&mut self, who: usize, figure: Figure) -> Result<(), Refusal> {
+    pub fn propose(&mut self, who: usize, figure: i32) -> Result<(), Refusal> {
         if self.stations[who] != Station::Idle {
             return Err(Refusal::NotIdle);
         }
@@ -220,16 +217,16 @@ impl World {
     fn moved(&mut self, who: usize, before: Station) -> (Station, Answer) {
         match before {
             Station::WriteM(l) => {
-                self.m[who] = Some(Entry { mark: Mark::Written, island: l.island, figure: l.carried });
+                self.m[who] = Some(Entry { mark: Mark::Written, island: l.island, figure: Figure::of(l.carried) });
                 (Station::ReadM(l, Collect::default()), Answer::Wrote)
             }
             Station::WriteA(l) => {
-                let entry = Entry { mark: Mark::Written, island: 0, figure: l.carried };
+                let entry = Entry { mark: Mark::Written, island: 0, figure: Figure::of(l.carried) };
                 self.a.row_mut(l.island)[who] = Some(entry);
                 (Station::ReadA(l, Collect::default()), Answer::Wrote)
             }
             Station::WriteB(l, flag) => {
-                let entry = Entry { mark: flag, island: 0, figure: l.carried };
+                let entry = Entry { mark: flag, island: 0, figure: Figure::of(l.carried) };
                 self.b.row_mut(l.island)[who] = Some(entry);
                 (Station::ReadB(l, flag, Collect::default()), Answer::Wrote)
             }
@@ -253,8 +250,8 @@ impl World {
 /// Lines 26 and 27: on to the island that m gave, with the figure that m gave.
 fn went(life: Life, heard: &[Entry]) -> (Station, Answer) {
     let best = largest(heard).expect("a sound collect has its own register");
-    let life = Life { island: best.island, carried: best.figure, ..life };
-    (Station::WriteA(life), Answer::Went(best.island, best.figure))
+    let life = Life { island: best.island, carried: best.figure.number(), ..life };
+    (Station::WriteA(life), Answer::Went(life.island, life.carried))
 }
 
 fn marked(life: Life, heard: &[Entry]) -> (Station, Answer) {

@@ -115,12 +115,10 @@ fn start(r: &mut Random, n: u8, k: u8) -> Vec<u8> {
     }
     let mut board = vec![0; length(n, k)];
     crate::calls::lay(&mut board, n, k).expect("the sizes are in range");
-    // The figures with which stations can be kept from deciding, or any.
     let one_above = r.once_in(2);
-    for station in 1..=n {
-        let figure = if one_above { (station == n) as i32 } else { r.figure() };
+    for (at, figure) in habits::figures(r, n, one_above).into_iter().enumerate() {
         if one_above || !r.once_in(8) {
-            crate::calls::propose(&mut board, station, figure).expect("it is idle");
+            crate::calls::propose(&mut board, at as u8 + 1, figure).expect("it is idle");
         }
     }
     board

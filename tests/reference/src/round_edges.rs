@@ -1,7 +1,7 @@
 //! Sheets at the edges of `(rounds k (2) () ..)` and of its refusals.
 
 use crate::edges::Edge;
-use crate::habits::{contended, steps_lines};
+use crate::habits::{contended, rising_lines, steps_lines};
 use crate::halts::Halts;
 
 /// Three stations with the figures that a habit keeps undecided.
@@ -166,10 +166,9 @@ fn sixteen() -> Edge {
 
 /// Every step that the largest board has: 3,264 of each station, four islands a line. All are spent, and stay so.
 fn every_step() -> Edge {
-    let proposals: String = (1..=16).map(|i| format!("(propose {i} {})\n", i32::MIN + i)).collect();
     let line = Halts { most: 15, rounds: contended(16, 4).rounds }.to_line();
     let mut lines = vec![line; 17];
     lines.insert(8, "(show)".to_string());
     lines.push("(steps (times 65536 16))".to_string());
-    edge("rounds of every step there is", &format!("(board 16 64)\n{proposals}"), &lines)
+    edge("rounds of every step there is", &format!("(board 16 64)\n{}", rising_lines()), &lines)
 }

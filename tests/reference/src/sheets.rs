@@ -66,17 +66,20 @@ fn form(r: &mut Random, laid: &mut Laid, heavy: bool) -> Vec<u8> {
 
 fn board(r: &mut Random, laid: &mut Laid) -> Vec<u8> {
     let (n, k) = r.size();
-    let soon = if n > 1 && r.once_in(4) { circling(r, n as usize) } else { proposals(r, n as usize) };
+    let soon = match r.below(8) {
+        0 | 1 if n > 1 => circling(r, n as usize),
+        2 if n > 2 => meeting(r, n as usize),
+        _ => proposals(r, n as usize),
+    };
     *laid = Laid { n: n as usize, lines_left: r.between(1, 90), soon, whole_turns: r.once_in(3) };
     format!("(board {n} {k})").into_bytes()
 }
 
 /// Every station's proposal, in any order.
 fn proposals(r: &mut Random, n: usize) -> Vec<String> {
-    // One figure above equal ones is what halting habits keep undecided.
     let one_above = r.once_in(4);
-    let mut figure = |i: usize| if one_above { (i == n) as i32 } else { r.figure() };
-    let mut lines: Vec<String> = (1..=n).map(|i| format!("(propose {i} {})", figure(i))).collect();
+    let figures = habits::figures(r, n as u8, one_above);
+    let mut lines: Vec<String> = (1..).zip(figures).map(|(i, v)| format!("(propose {i} {v})")).collect();
     r.shuffle(&mut lines);
     lines
 }
@@ -85,11 +88,31 @@ fn proposals(r: &mut Random, n: usize) -> Vec<String> {
 fn circling(r: &mut Random, n: usize) -> Vec<String> {
     let high = r.between(1, n);
     let low = neighbour(high, n);
-    let figure = r.figure().saturating_add(1);
-    let first = format!("(propose {high} {figure})");
-    let second = format!("(propose {low} {})", figure - 1);
+    let [lower, higher] = r.two_figures();
+    let first = format!("(propose {high} {higher})");
+    let second = format!("(propose {low} {lower})");
     let steps = format!("(steps {})", circle(n, high, r.pick(&[1, 2, 2, 3, 63, 64])));
     vec!["(show)".to_string(), steps, second, first]
+}
+
+/// Three stations of which two meet in B.
+fn meeting(r: &mut Random, n: usize) -> Vec<String> {
+    let mut all: Vec<usize> = (1..=n).collect();
+    r.shuffle(&mut all);
+    let [middle, higher] = r.two_figures();
+    let lines = meeting_lines(n, [all[0], all[1], all[2]], [0, middle, higher]);
+    lines.lines().rev().map(str::to_string).collect()
+}
+
+/// The higher figure stands in A before the station with the lowest reads there, and after the one with the middle figure
+/// did. So these two come to B with adopts of different figures, and each reads both.
+pub fn meeting_lines(n: usize, [low, middle, high]: [usize; 3], figures: [i32; 3]) -> String {
+    let proposals = [low, middle, high].into_iter().zip(figures).map(|(i, v)| format!("(propose {i} {v})\n"));
+    let turn = n + 1;
+    let in_m = format!("(times {turn} {low}) (times {turn} {middle}) (times {turn} {high})");
+    let in_a = format!("{low} (times {turn} {middle}) {high} (times {n} {low})");
+    let in_b = format!("(times {turn} {low} {middle})");
+    format!("{}(steps {in_m} {in_a})\n(show)\n(steps {in_b})\n(show)\n", proposals.collect::<String>())
 }
 
 fn neighbour(i: usize, n: usize) -> usize {
@@ -158,7 +181,7 @@ fn turns(r: &mut Random, n: usize) -> String {
 }
 
 /// The document's second run on any board: two stations that meet on one island after the other.
-fn circle(n: usize, high: usize, islands: usize) -> String {
+pub fn circle(n: usize, high: usize, islands: usize) -> String {
     let low = neighbour(high, n);
     let (one, two) = (n + 1, 2 * n + 2);
     let start = format!("(times {one} {low}) (times {one} {high}) (times {one} {low})");

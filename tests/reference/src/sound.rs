@@ -1,6 +1,7 @@
 //! "A board that keeps all this is sound": the clauses, one function each, with the document's sentence.
 
 use crate::bytes::{Cell, Fields, Record};
+use crate::figure::Figure;
 
 pub struct Clause {
     pub name: &'static str,
@@ -166,8 +167,8 @@ fn own_best(f: &Fields) -> bool {
     f.records.iter().enumerate().all(|(who, r)| {
         !passed(who, r)
             || match r.phase {
-                2 => (r.best_island, r.best) >= (r.island, r.carried),
-                4 => r.best >= r.carried,
+                2 => (r.best_island, Figure::of(r.best)) >= (r.island, Figure::of(r.carried)),
+                4 => Figure::of(r.best) >= Figure::of(r.carried),
                 _ => true,
             }
     })

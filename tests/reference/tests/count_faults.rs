@@ -251,7 +251,7 @@ impl Faulty {
         let refusal = Reference.propose(&mut apart.bare(), station, figure);
         if refusal == 0 {
             let who = station as usize - 1;
-            apart.world.propose(who, figure as i64).expect("it is idle");
+            apart.world.propose(who, figure).expect("it is idle");
             apart.counts[who] += (self.0 == ProposalCounted) as u16;
             self.closed(board, &apart);
         }

@@ -19,8 +19,8 @@ fn the_first_sheet() {
         "(board 3 2)\n(propose 1 -40)\n(propose 2 15)\n(steps (times 12 1))\n(show)\n(steps (times 24 2))\n(show)\n\
          (steps 1 2 3 4)\n",
         "(laid 3 2)\n(proposed 1 -40)\n(proposed 2 15)\n(ran 12 0)\n\
-         (stations (1 decided 0 -40) (2 going 0 15) (3 idle))\n(ran 24 0)\n\
-         (stations (1 decided 0 -40) (2 decided 1 -40) (3 idle))\n(ran 0 4)\n",
+         (stations (1 decided 0 -40) (2 going 0 15) (3 idle))\n(ran 12 12)\n\
+         (stations (1 decided 0 -40) (2 decided 0 -40) (3 idle))\n(ran 0 4)\n",
     );
 }
 
@@ -37,8 +37,8 @@ fn how_each_station_stands() {
     assert_eq!(calls::standing(&board, 3), Ok((Standing::Idle, 0)));
     assert_eq!(number(calls::standing(&board, 0)), 12);
     assert_eq!(number(calls::standing(&board, 4)), 12);
-    assert_eq!(calls::run(&mut board, &[2; 24]), Ok((24, 0)));
-    assert_eq!(calls::standing(&board, 2), Ok((Standing::Decided(1, -40), 24)));
+    assert_eq!(calls::run(&mut board, &[2; 24]), Ok((12, 12)));
+    assert_eq!(calls::standing(&board, 2), Ok((Standing::Decided(0, -40), 12)));
     assert_eq!(calls::run(&mut board, &[1, 2, 3, 4]), Ok((0, 4)));
     assert_eq!(calls::standing(&board, 1), Ok((Standing::Decided(0, -40), 12)));
     board[2] = 1;
@@ -83,13 +83,13 @@ fn lengths_and_counts() {
     assert_eq!(reference::bytes::length(3, 2), 200);
 }
 
-/// "−2,147,483,648 is below −1; 2,147,483,647 is above 0": the larger one is what both go on with.
+/// "−2,147,483,648 is above 2,147,483,647": it is what both go on with, whoever proposes it.
 #[test]
 fn both_ends_of_the_figures() {
-    for (low, high) in [(i32::MIN, -1), (0, i32::MAX)] {
-        let sheet = format!("(board 2 2)\n(propose 1 {low})\n(propose 2 {high})\n(steps 1 2 (times 2 1 2))\n(show)\n");
+    for (one, two) in [(i32::MIN, i32::MAX), (i32::MAX, i32::MIN)] {
+        let sheet = format!("(board 2 2)\n(propose 1 {one})\n(propose 2 {two})\n(steps 1 2 (times 2 1 2))\n(show)\n");
         let out = String::from_utf8(play(sheet.as_bytes())).unwrap();
-        assert!(out.ends_with(&format!("(stations (1 going 0 {high}) (2 going 0 {high}))\n")), "{out}");
+        assert!(out.ends_with("(stations (1 going 0 -2147483648) (2 going 0 -2147483648))\n"), "{out}");
     }
 }
 

@@ -19,6 +19,22 @@ bits-in : (v : ℤ) → SFits w32 v → ofZ w32 v ≤ 4294967295
 bits-in (pos n) h = omega (arith, h .sfits)
 bits-in (negsuc n) h = omega arith
 
+-- −z − 1, whose bits are the complement of z's
+abbrev pub notZ : ℤ → ℤ
+notZ (pos n) = negsuc n
+notZ (negsuc n) = pos n
+
+pub not-bits : (v : ℤ) → SFits w32 v → toZ w32 (4294967295 - ofZ w32 v) ≡ notZ v
+not-bits v h = ap (toZ w32) (bits v h) ∙ toZ-ofZ (inside v h)
+  where
+    bits : (v : ℤ) → SFits w32 v → 4294967295 - ofZ w32 v ≡ ofZ w32 (notZ v)
+    bits (pos n) h = omega (arith, h .sfits)
+    bits (negsuc n) h = omega (arith, h .sfits)
+
+    inside : (v : ℤ) → SFits w32 v → SFits w32 (notZ v)
+    inside (pos n) h = record { sfits = h .sfits }
+    inside (negsuc n) h = record { sfits = h .sfits }
+
 plain : (v : ℤ) → SFits w32 v → ltZ v (pos 0) ≡ false → toZ w32 (ofZ w32 v) ≡ pos (ofZ w32 v)
 plain (pos n) h e = toZ-pos w32 n (h .sfits)
 plain (negsuc n) h e = absurd (let z : _≡_ {A = ℕ} 0 1 = cc in omega arith)

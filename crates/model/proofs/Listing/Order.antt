@@ -1,41 +1,70 @@
 -- The order of figures is strict and total; and pairs by any such order are ordered so too.
--- Relies on Figure's order; only this file changes with it. Collects' laws on the best value rely on it.
-use Rattle.model.proofs.Kit.{_≡_, refl, sym, ap, _∙_, true, false, _&&_, not, inl, inr, ⊎-elim, _⊎_, ℕ, _≤_}
-use Rattle.model.proofs.Kit.{_<_, lt-ltb}
-use Rattle.model.proofs.Kit.{le-ltb, eq-eqb, ltb-false, eqb, ltb, T, eqb→eq, ltb→lt, lt→ltb, pos, negsuc, arith}
+-- Relies on Figure's order, whose laws are all drawn from the ranks; only this file changes with it. Collects' laws on
+-- the best value rely on it, and so do the proofs of the code's order.
+use Rattle.model.proofs.Kit.{_≡_, refl, sym, ap, _∙_, Bool, true, false, _&&_, _||_, not, inl, inr, ⊎-elim, _⊎_}
+use Rattle.model.proofs.Kit.{ℕ, suc, _*_, _≤_, _<_, lt-ltb, le-ltb, eq-eqb, ne-eqb, ltb-false, eqb, ltb, T}
+use Rattle.model.proofs.Kit.{eqb→eq, ltb→lt, lt→ltb, pos, negsuc, w32, SFits, eq-or-lt-of-le, arith}
 use native.Mathlib.Nat.{lt-irrefl, lt-trans}
 use Rattle.model.specs.Figure.{Figure, above, figures}
+use Rattle.model.specs.BySize.{BySize, rank}
 use Rattle.model.specs.Listing.{Order, pairAbove}
 use Rattle.model.specs.Collects.{Strict}
 use Rattle.model.proofs.Basics.Numbers.{same-law, self-law}
-use Rattle.model.proofs.Basics.Tests.{and-l, and-r, or-case, true-T, T-true, T-false, no-T, clash}
+use Rattle.model.proofs.Basics.Tests.{and-l, and-r, or-case, true-T, T-true, T-false, no-T}
 use Rattle.model.proofs.Board.Places.{lower, equal, higher, compared}
 
 -- ---- figures
 
+-- Sizes first and the tie second order two figures as their ranks do.
+by-size : (p q r s : ℕ) (t : Bool) → (p < q → r < s) → (q < p → s ≤ r) → (p ≡ q → t ≡ ltb r s)
+    → ltb p q || (eqb p q && t) ≡ ltb r s
+by-size p q r s t f g h = elim (compared p q) [
+  | lower l ↦ rw (lt-ltb p q l) (sym (lt-ltb r s (f l)))
+  | equal e ↦ rw (le-ltb p q (omega arith), eq-eqb p q e) (h e)
+  | higher l ↦ rw (le-ltb p q (omega arith), ne-eqb p q (λ e. omega arith)) (sym (le-ltb r s (g l)))
+]
+
+above-rank : (x y : Figure) → above x y ≡ ltb (rank y) (rank x)
+unfolding above rank
+above-rank (pos a) (pos b) =
+    by-size b a (2 * b) (2 * a) _ (λ h. omega arith) (λ h. omega arith)
+    (λ e. le-ltb b a (omega arith) ∙ sym (le-ltb (2 * b) (2 * a) (omega arith)))
+above-rank (pos a) (negsuc b) =
+    by-size (suc b) a (suc (2 * b)) (2 * a) _ (λ h. omega arith) (λ h. omega arith)
+    (λ e. sym (lt-ltb (suc (2 * b)) (2 * a) (omega arith)))
+above-rank (negsuc a) (pos b) =
+    by-size b (suc a) (2 * b) (suc (2 * a)) _ (λ h. omega arith) (λ h. omega arith)
+    (λ e. sym (le-ltb (2 * b) (suc (2 * a)) (omega arith)))
+above-rank (negsuc a) (negsuc b) =
+    by-size (suc b) (suc a) (suc (2 * b)) (suc (2 * a)) _ (λ h. omega arith) (λ h. omega arith)
+    (λ e. le-ltb a b (omega arith) ∙ sym (le-ltb (suc (2 * b)) (suc (2 * a)) (omega arith)))
+
+-- no two figures have one rank
+rank-one : (x y : Figure) → rank x ≡ rank y → x ≡ y
+unfolding rank
+rank-one (pos a) (pos b) e = ap pos (omega arith)
+rank-one (pos a) (negsuc b) e = absurd (omega arith)
+rank-one (negsuc a) (pos b) e = absurd (omega arith)
+rank-one (negsuc a) (negsuc b) e = ap negsuc (omega arith)
+
+above-lower : (x y : Figure) → T (above x y) → rank y < rank x
+above-lower x y t = ltb→lt (rank y) (rank x) (rw (above-rank x y) at t)
+
+lower-above : (x y : Figure) → rank y < rank x → T (above x y)
+lower-above x y h = rw (above-rank x y) (lt→ltb (rank y) (rank x) h)
+
+not-lower : (x y : Figure) → above x y ≡ false → rank x ≤ rank y
+not-lower x y e = ltb-false (rank y) (rank x) (sym (above-rank x y) ∙ e)
+
 pub above-irrefl : (x : Figure) → T (above x x) → ⊥
-unfolding above
-above-irrefl (pos a) t = lt-irrefl a (ltb→lt a a t)
-above-irrefl (negsuc a) t = lt-irrefl a (ltb→lt a a t)
+above-irrefl x t = lt-irrefl (rank x) (above-lower x x t)
 
 pub above-trans : (x y z : Figure) → T (above x y) → T (above y z) → T (above x z)
-unfolding above
-above-trans (pos a) (pos b) (pos c) s t = lt→ltb c a (lt-trans (ltb→lt c b t) (ltb→lt b a s))
-above-trans (pos a) (pos b) (negsuc c) s t = tt
-above-trans (pos a) (negsuc b) (pos c) s t = absurd t
-above-trans (pos a) (negsuc b) (negsuc c) s t = tt
-above-trans (negsuc a) (pos b) z s t = absurd s
-above-trans (negsuc a) (negsuc b) (pos c) s t = absurd t
-above-trans (negsuc a) (negsuc b) (negsuc c) s t = lt→ltb a c (lt-trans (ltb→lt a b s) (ltb→lt b c t))
+above-trans x y z s t = lower-above x z (lt-trans (above-lower y z t) (above-lower x y s))
 
 above-total : (x y : Figure) → above x y ≡ false → above y x ≡ false → x ≡ y
-unfolding above
-above-total (pos a) (pos b) e f = ap pos (omega (arith, ltb-false))
-above-total (pos a) (negsuc b) e f = clash e
-above-total (negsuc a) (pos b) e f = clash f
-above-total (negsuc a) (negsuc b) e f = ap negsuc (omega (arith, ltb-false))
+above-total x y e f = rank-one x y (omega (arith, not-lower x y e, not-lower y x f))
 
--- "Figures compare as signed numbers."
 pub strict : Strict figures
 unfolding figures
 strict = record {
@@ -44,6 +73,28 @@ strict = record {
   irreflexive = λ x. no-T (above x x) (above-irrefl x);
   transitive = λ x y z s t. T-true (above x z) (above-trans x y z (true-T (above x y) s) (true-T (above y z) t));
   total = above-total;
+}
+
+above-or-same : (x y : Figure) → rank y ≤ rank x → (y ≡ x) ⊎ (above x y ≡ true)
+above-or-same x y h =
+    ⊎-elim (λ (e : rank y ≡ rank x). inl (rank-one y x e)) (λ (l : rank y < rank x). inr (T-true _ (lower-above x y l)))
+    (eq-or-lt-of-le h)
+
+first-rank : (x : Figure) → rank (pos 0) ≤ rank x
+unfolding rank
+first-rank x = omega arith
+
+last-rank : (x : Figure) → SFits w32 x → rank x ≤ rank (negsuc 2147483647)
+unfolding rank
+last-rank (pos n) h = omega (arith, h .sfits)
+last-rank (negsuc n) h = omega (arith, h .sfits)
+
+pub bySize : BySize
+bySize = record {
+  ordered = strict;
+  in-row = above-rank;
+  least = λ x. above-or-same x (pos 0) (first-rank x);
+  greatest = λ x h. above-or-same (negsuc 2147483647) x (last-rank x h);
 }
 
 -- ---- "Pairs (island, figure) compare by island, then by figure."

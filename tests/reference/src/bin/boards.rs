@@ -21,7 +21,8 @@ fn main() {
     let (count, first): (u64, u64) = (count.parse().expect("a number"), seed.parse().expect("a number"));
     println!("seeds from {first}");
     let mut compare = Compare::new(&Linked);
-    for (k, figures) in [(2, &[3][..]), (2, &[3, 7]), (2, &[i32::MAX, i32::MIN]), (2, &[5, 5]), (3, &[3, 7])] {
+    let ends = [i32::MAX, i32::MIN];
+    for (k, figures) in [(2, &[3][..]), (2, &[3, 7]), (2, &ends), (2, &[5, 5]), (2, &[5, -5]), (3, &[3, 7])] {
         compare.reached(k, figures);
     }
     println!("every board of one or two stations: {} passed, {} failed", compare.passed, compare.failed);

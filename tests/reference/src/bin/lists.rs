@@ -100,7 +100,7 @@ fn stepped_by(halts: &Halts, shown: &[Standing], deeds: &mut [Deeds]) {
 
 fn decided(standing: Standing) -> Option<i32> {
     if let Standing::Decided(_, v) = standing {
-        Some(v as i32)
+        Some(v)
     } else {
         None
     }
@@ -198,7 +198,7 @@ fn main() {
     println!("seeds from {first}");
     let (mut calls, mut sheets, mut orders) = (Tally::default(), Tally::default(), Tally::default());
     let mut reached = Tally::default();
-    for (k, figures) in [(2, [3, 7]), (2, [7, 3]), (2, [5, 5]), (4, [3, 7])] {
+    for (k, figures) in [(2, [3, 7]), (2, [7, 3]), (2, [5, 5]), (2, [5, -5]), (4, [3, 7])] {
         all_lists(&mut reached, k, &figures);
     }
     if more == ["three"] {

@@ -1,12 +1,7 @@
--- `order::above` meets its contract: the machine compares the numbers that the bits stand for, which are the figures.
-use Rattle.model.proofs.Kit.{ltZ, toZ-ofZ}
-use Rattle.model.specs.Figure.{above}
+-- `order::above` meets its contract: no figure is above itself, and of two others the sign of the sum tells.
+use Rattle.figures.proofs.Laws.Order.{above-same, above-differs}
 use Rattle.figures.proofs.order.above.Statement.{statement}
 use Rattle.figures.proofs.order.above.Tie as tie
 
-returns : tie.Need-returns
-unfolding above
-returns c = λ i. ltZ (toZ-ofZ (c .fits .y) i) (toZ-ofZ (c .fits .x) i)
-
 pub above-spec : {M : Type 1} → statement M
-above-spec = tie.close (tie.spec returns)
+above-spec = tie.close (tie.spec (λ c. search above-same) (λ c. search above-differs))
