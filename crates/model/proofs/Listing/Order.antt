@@ -1,9 +1,10 @@
 -- The order of figures is strict and total; and pairs by any such order are ordered so too.
 -- Relies on Figure's order, whose laws are all drawn from the ranks; only this file changes with it. Collects' laws on
 -- the best value rely on it, and so do the proofs of the code's order.
-use Rattle.model.proofs.Kit.{_≡_, refl, sym, ap, _∙_, Bool, true, false, _&&_, _||_, not, inl, inr, ⊎-elim, _⊎_}
+use Rattle.model.proofs.Kit.{_≡_, refl, sym, ap, _∙_, true, false, _&&_, not, inl, inr, ⊎-elim, _⊎_}
 use Rattle.model.proofs.Kit.{ℕ, suc, _*_, _≤_, _<_, lt-ltb, le-ltb, eq-eqb, ne-eqb, ltb-false, eqb, ltb, T}
-use Rattle.model.proofs.Kit.{eqb→eq, ltb→lt, lt→ltb, pos, negsuc, w32, SFits, eq-or-lt-of-le, arith}
+use Rattle.model.proofs.Kit.{eqb→eq, ltb→lt, lt→ltb, pos, negsuc, ltZ, w32, SFits, eq-or-lt-of-le, arith}
+use lib.IntN.{natAbs}
 use native.Mathlib.Nat.{lt-irrefl, lt-trans}
 use Rattle.model.specs.Figure.{Figure, above, figures}
 use Rattle.model.specs.BySize.{BySize, rank}
@@ -15,29 +16,30 @@ use Rattle.model.proofs.Board.Places.{lower, equal, higher, compared}
 
 -- ---- figures
 
--- Sizes first and the tie second order two figures as their ranks do.
-by-size : (p q r s : ℕ) (t : Bool) → (p < q → r < s) → (q < p → s ≤ r) → (p ≡ q → t ≡ ltb r s)
-    → ltb p q || (eqb p q && t) ≡ ltb r s
-by-size p q r s t f g h = elim (compared p q) [
-  | lower l ↦ rw (lt-ltb p q l) (sym (lt-ltb r s (f l)))
-  | equal e ↦ rw (le-ltb p q (omega arith), eq-eqb p q e) (h e)
-  | higher l ↦ rw (le-ltb p q (omega arith), ne-eqb p q (λ e. omega arith)) (sym (le-ltb r s (g l)))
-]
+-- the rank rises with the size, and of two equal sizes with the number
+size-rank : (x y : Figure) → natAbs y < natAbs x → rank y < rank x
+unfolding rank
+size-rank (pos a) (pos b) h = omega arith
+size-rank (pos a) (negsuc b) h = omega arith
+size-rank (negsuc a) (pos b) h = omega arith
+size-rank (negsuc a) (negsuc b) h = omega arith
+
+tie-rank : (x y : Figure) → natAbs y ≡ natAbs x → ltZ y x ≡ ltb (rank y) (rank x)
+unfolding rank
+tie-rank (pos a) (pos b) e = le-ltb b a (omega arith) ∙ sym (le-ltb (2 * b) (2 * a) (omega arith))
+tie-rank (pos a) (negsuc b) e = sym (lt-ltb (suc (2 * b)) (2 * a) (omega arith))
+tie-rank (negsuc a) (pos b) e = sym (le-ltb (2 * b) (suc (2 * a)) (omega arith))
+tie-rank (negsuc a) (negsuc b) e = le-ltb a b (omega arith) ∙ sym (le-ltb (suc (2 * b)) (suc (2 * a)) (omega arith))
 
 above-rank : (x y : Figure) → above x y ≡ ltb (rank y) (rank x)
-unfolding above rank
-above-rank (pos a) (pos b) =
-    by-size b a (2 * b) (2 * a) _ (λ h. omega arith) (λ h. omega arith)
-    (λ e. le-ltb b a (omega arith) ∙ sym (le-ltb (2 * b) (2 * a) (omega arith)))
-above-rank (pos a) (negsuc b) =
-    by-size (suc b) a (suc (2 * b)) (2 * a) _ (λ h. omega arith) (λ h. omega arith)
-    (λ e. sym (lt-ltb (suc (2 * b)) (2 * a) (omega arith)))
-above-rank (negsuc a) (pos b) =
-    by-size b (suc a) (2 * b) (suc (2 * a)) _ (λ h. omega arith) (λ h. omega arith)
-    (λ e. sym (le-ltb (2 * b) (suc (2 * a)) (omega arith)))
-above-rank (negsuc a) (negsuc b) =
-    by-size (suc b) (suc a) (suc (2 * b)) (suc (2 * a)) _ (λ h. omega arith) (λ h. omega arith)
-    (λ e. le-ltb a b (omega arith) ∙ sym (le-ltb (suc (2 * b)) (suc (2 * a)) (omega arith)))
+unfolding above
+above-rank x y = elim (compared (natAbs y) (natAbs x)) [
+  | lower h ↦ rw (lt-ltb (natAbs y) (natAbs x) h) (sym (lt-ltb (rank y) (rank x) (size-rank x y h)))
+  | equal e ↦ rw (le-ltb (natAbs y) (natAbs x) (omega arith), eq-eqb (natAbs y) (natAbs x) e) (tie-rank x y e)
+  | higher h ↦
+      rw (le-ltb (natAbs y) (natAbs x) (omega arith), ne-eqb (natAbs y) (natAbs x) (λ e. omega arith))
+      (sym (le-ltb (rank y) (rank x) (omega (arith, size-rank y x h))))
+]
 
 -- no two figures have one rank
 rank-one : (x y : Figure) → rank x ≡ rank y → x ≡ y
