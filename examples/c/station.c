@@ -16,7 +16,8 @@
 /* What a step did, by its kind; there is no kind 0. */
 static const char *const kinds[] = {"", "wrote", "read", "went", "marked", "adopted", "decided", "spent"};
 
-/* What each station proposes; stations are numbered from 1. */
+/* What each station proposes; stations are numbered from 1. Figures compare by their size without sign, and of two equal sizes
+ * the positive one is larger: 0, -1, 1, -2, 2 rise. So station 2 has the largest figure of all; it comes too late with it. */
 static const int32_t figures[STATIONS + 1] = {0, -40, INT32_MIN, 15};
 
 /* The order in which the stations come to a turn, over and over. */
