@@ -32,11 +32,8 @@ pub fn larger(x: i32, y: i32) -> i32
 pub fn pair_above(k: u8, y: i32, j: u8, x: i32) -> bool
     ensures { λ r. ⌜ r ≡ listing.pairAbove figures k y j x ⌝ }
 {
-    if j < k {
-        return true;
+    if j != k {
+        return j < k;
     }
-    if j == k {
-        return above(y, x);
-    }
-    false
+    above(y, x)
 }

@@ -78,15 +78,14 @@ module _ (x y : Figure) (f : SFits w32 x) (g : SFits w32 y) where
     unfolding larger figures
     larger-first h = toZ-ofZ f ∙ simp (sym tested ∙ h)
 
-    pub on-one-island : (k j : ℕ) → k ≤ j → j ≡ k → t ≡ pairAbove figures k y j x
+    pub on-one-island : (k j : ℕ) → j ≡ k → t ≡ pairAbove figures k y j x
     unfolding pairAbove figures
-    on-one-island k j h q = simp (le-ltb j k h, eq-eqb j k q) tested
+    on-one-island k j q = simp (le-ltb j k (omega arith), eq-eqb j k q) tested
 
-module _ (k j : ℕ) (y x : Figure) where
-  pub higher-island : j < k → true ≡ pairAbove figures k y j x
-  unfolding pairAbove
-  higher-island h = simp (lt-ltb j k h)
-
-  pub lower-island : k ≤ j → (j ≡ k → ⊥) → false ≡ pairAbove figures k y j x
-  unfolding pairAbove
-  lower-island h n = simp (le-ltb j k h, ne-eqb j k n)
+pub other-island : (k j : ℕ) (y x : Figure) → (j ≡ k → ⊥) → ltb j k ≡ pairAbove figures k y j x
+unfolding pairAbove
+other-island k j y x n = elim (compared j k) [
+  | lower h ↦ simp (lt-ltb j k h)
+  | equal e ↦ absurd (n e)
+  | higher h ↦ simp (le-ltb j k (omega arith), ne-eqb j k n)
+]
