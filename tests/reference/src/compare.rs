@@ -122,6 +122,15 @@ fn hex(board: &[u8]) -> String {
     format!("{} bytes {text}{}", board.len(), if most < board.len() { ".." } else { "" })
 }
 
+/// Whether something that is made from the seeds, one after another, tells the engine from the reference.
+pub fn differs(engine: &dyn Engine, mut seeds: impl Iterator<Item = u64>, made: impl Fn(&mut Compare, u64)) -> bool {
+    let mut compare = Compare::new(engine);
+    seeds.any(|seed| {
+        made(&mut compare, seed);
+        compare.failed > 0
+    })
+}
+
 impl<'a> Compare<'a> {
     pub fn new(engine: &'a dyn Engine) -> Compare<'a> {
         let patterns = Random::new(0);

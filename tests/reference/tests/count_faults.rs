@@ -2,7 +2,7 @@
 //! what a standing tells of it.
 
 use reference::bytes::{fields, values, Fields, Record};
-use reference::compare::Compare;
+use reference::compare;
 use reference::count_batches::SIZES;
 use reference::engine::{Engine, Reference};
 use reference::halts::Halts;
@@ -341,26 +341,17 @@ impl Engine for Faulty {
     }
 }
 
-/// Whether what is made from the seeds finds the fault.
-fn finds(fault: Fault, seeds: std::ops::Range<u64>, made: impl Fn(&mut Compare, u64)) -> bool {
-    let engine = Faulty(fault);
-    let mut compare = Compare::new(&engine);
-    seeds.into_iter().any(|seed| {
-        made(&mut compare, seed);
-        compare.failed > 0
-    })
-}
-
 fn batches_find(fault: Fault) -> bool {
-    finds(fault, 1..40, |compare, seed| compare.batch(seed))
+    compare::differs(&Faulty(fault), 1..40, |compare, seed| compare.batch(seed))
 }
 
 fn tails_find(fault: Fault) -> bool {
-    finds(fault, 0..SIZES.len() as u64, |compare, seed| compare.every_tail(seed, SIZES[seed as usize]))
+    let sizes = 0..SIZES.len() as u64;
+    compare::differs(&Faulty(fault), sizes, |compare, seed| compare.every_tail(seed, SIZES[seed as usize]))
 }
 
 fn runs_find(fault: Fault) -> bool {
-    finds(fault, 1..2, |compare, seed| compare.most_counted(seed))
+    compare::differs(&Faulty(fault), 1..2, |compare, seed| compare.most_counted(seed))
 }
 
 #[test]

@@ -1,7 +1,7 @@
 //! The comparison itself is tried: an engine that is the reference passes, and each of these faults is found.
 
 use reference::bytes::Fields;
-use reference::compare::Compare;
+use reference::compare;
 use reference::engine::{Engine, Reference, SHOWN};
 
 /// The faults by name, and all of them to be tried.
@@ -167,12 +167,7 @@ impl Engine for Faulty {
 
 /// Batches are made until one fails. The first has far more calls than those after it, and is made last.
 fn found(fault: Fault) -> bool {
-    let engine = Faulty(fault);
-    let mut compare = Compare::new(&engine);
-    (1..40).chain([0]).any(|seed| {
-        compare.batch(seed);
-        compare.failed > 0
-    })
+    compare::differs(&Faulty(fault), (1..40).chain([0]), |compare, seed| compare.batch(seed))
 }
 
 #[test]

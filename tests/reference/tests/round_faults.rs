@@ -2,7 +2,7 @@
 
 use reference::bytes::{length, Fields};
 use reference::calls;
-use reference::compare::Compare;
+use reference::compare;
 use reference::engine::{Engine, Reference};
 use reference::halts::{Halts, ROUND_END};
 use reference::sheet::{self, Form};
@@ -233,12 +233,7 @@ impl Engine for Faulty {
 
 /// The first batch has far more calls than those after it, and is made last.
 fn found_by_calls(fault: Fault, list_fault: ListFault) -> bool {
-    let engine = Faulty(fault, list_fault);
-    let mut compare = Compare::new(&engine);
-    (1..12).chain([0]).any(|seed| {
-        compare.batch(seed);
-        compare.failed > 0
-    })
+    compare::differs(&Faulty(fault, list_fault), (1..12).chain([0]), |compare, seed| compare.batch(seed))
 }
 
 /// A whole sheet, of which only the rounds are played wrongly.

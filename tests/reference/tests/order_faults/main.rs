@@ -4,7 +4,7 @@ mod fault;
 
 use fault::{all_faults, of_reading, Fault};
 use reference::bytes::{fields, length, values, Fields};
-use reference::compare::Compare;
+use reference::compare;
 use reference::engine::{packed_answer, Engine, Reference};
 use reference::figure::EDGES;
 use reference::halts::Halts;
@@ -97,26 +97,17 @@ impl Engine for Faulty {
     }
 }
 
-/// Whether what is made from the seeds finds the fault.
-fn finds(fault: Fault, seeds: std::ops::Range<u64>, made: fn(&mut Compare, u64)) -> bool {
-    let engine = Faulty(fault);
-    let mut compare = Compare::new(&engine);
-    seeds.into_iter().any(|seed| {
-        made(&mut compare, seed);
-        compare.failed > 0
-    })
-}
-
 fn batches_find(fault: Fault) -> bool {
-    finds(fault, 1..40, |compare, seed| compare.batch(seed))
+    compare::differs(&Faulty(fault), 1..40, |compare, seed| compare.batch(seed))
 }
 
 fn boards_find(fault: Fault) -> bool {
-    finds(fault, 1..2000, |compare, seed| compare.ordered_board(seed))
+    compare::differs(&Faulty(fault), 1..2000, |compare, seed| compare.ordered_board(seed))
 }
 
 fn pairs_find(fault: Fault) -> bool {
-    finds(fault, 0..EDGES.len() as u64, |compare, seed| compare.every_pair(seed, EDGES[seed as usize]))
+    let edges = 0..EDGES.len() as u64;
+    compare::differs(&Faulty(fault), edges, |compare, seed| compare.every_pair(seed, EDGES[seed as usize]))
 }
 
 /// A whole sheet, of which only lines of steps are played wrongly.
