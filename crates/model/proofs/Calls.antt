@@ -1,4 +1,4 @@
--- The calls: refusals in order, soundness kept, locality, runs.
+-- The calls: refusals in order, soundness kept, locality, runs, proposals together in any order.
 pub mod Access
 pub mod StepKeeps
 pub mod Refusals
@@ -9,4 +9,6 @@ pub mod Runs
 pub mod Rounds
 pub mod Accepted
 pub mod StepsTaken
+pub mod Proposals
+pub mod AnyOrder
 pub mod Claims

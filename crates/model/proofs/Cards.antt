@@ -30,7 +30,7 @@ use Rattle.model.specs.Calls.{run}
 use Rattle.model.specs.Runs.{after}
 use Rattle.model.specs.Cards.{ShutOut, Row, AllDiffer, rows, movedBy, by, listing, ending, refusesAll, leavesIdle}
 use Rattle.model.specs.Cards.{zeroAt, seeAll, wholeAtFirst, spentAt, wholeInOne, oldAt, ownIslandAt, counted}
-use Rattle.model.specs.Cards.{emptiesCounted, ownLargestAt, presentAt, proposeAll, boardAfter}
+use Rattle.model.specs.Cards.{emptiesCounted, ownLargestAt, presentAt, proposeFrom, boardAfter}
 use Rattle.model.proofs.Basics.Tests.{clash, T-true, T-false, and-l, and-r}
 
 unlike : {A : Type 0} (look : A → ℕ) (a b : A) → eqb (look a) (look b) ≡ false → a ≡ b → ⊥
@@ -64,7 +64,7 @@ taken (notRun k) = 0
 
 pub shut-out : ShutOut
 unfolding ShutOut AllDiffer rows at same different taken movedBy by listing ending refusesAll leavesIdle zeroAt seeAll
-    wholeAtFirst spentAt wholeInOne oldAt ownIslandAt counted emptiesCounted ownLargestAt presentAt proposeAll
+    wholeAtFirst spentAt wholeInOne oldAt ownIslandAt counted emptiesCounted ownLargestAt presentAt proposeFrom
     boardAfter after number digits part splice zeros every implies figure figureBytes sameFigure above figures array
     placeArray placeColumn accepted outcome entry proposed stay onward finish ended larger pairAbove add see move
     flagOf flagNumber boardLength rowOf registerAt recordAt freshBoard readRegister layRegister registerFields

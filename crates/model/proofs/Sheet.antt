@@ -4,6 +4,7 @@ pub mod Readers
 pub mod Numbers
 pub mod NumbersBack
 pub mod Lists
+pub mod Pairs
 pub mod Written
 pub mod WrittenBack
 pub mod Printed

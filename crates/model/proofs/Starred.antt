@@ -2,7 +2,8 @@
 -- Relies on the definitions alone.
 use Rattle.model.proofs.Kit.{refl}
 use Rattle.model.specs.Starred.{Starred, Holds, rise, rows, sheet, asLines, layIn}
-use Rattle.model.specs.Bytes.{number, digits, part, splice, zeros, every, count, implies, onFirst, endedBy}
+use Rattle.model.specs.Bytes.{number, digits, part, splice, zeros, every, count, names, implies, onFirst}
+use Rattle.model.specs.Bytes.{endedBy}
 use Rattle.model.specs.Figure.{figure, figureBytes, sameFigure, above, figures}
 use Rattle.model.specs.Listing.{array, placeArray, placeColumn, accepted, outcome, entry, proposed, stay, onward}
 use Rattle.model.specs.Listing.{finish, ended, larger, pairAbove, add, see, move}
@@ -22,8 +23,9 @@ use Rattle.model.specs.Calls.{unless, ranges, shapeRefusal, stations, is
 use Rattle.model.specs.Calls.{stationAt, unlessRefused, lay, putRecord}
 use Rattle.model.specs.Calls.{putRegister, notIdle, propose, notGoing, access, stepped, stepOn, step, ranFrom}
 use Rattle.model.specs.Calls.{run}
-use Rattle.model.specs.Rounds.{names, inTurn, roundSteps, roundsSteps, settled, allSettled, rising, roundKnown}
+use Rattle.model.specs.Rounds.{inTurn, roundSteps, roundsSteps, settled, allSettled, rising, roundKnown}
 use Rattle.model.specs.Rounds.{roundsKnown, roundsRefusal, standsDecided, decidedOn, playedTo, rounds}
+use Rattle.model.specs.Proposals.{named, eachOnce, firstFault, proposalsRefusal, oneByOne, proposeAll}
 use Rattle.model.specs.Standing.{standingOf}
 use Rattle.model.specs.Show.{textFrom, text, decimalIn, decimal, signed, worded, standingText, status, statuses}
 use Rattle.model.specs.Show.{shownLine, shownAs, show}
@@ -31,9 +33,10 @@ use Rattle.model.specs.Forms.{repeated, expandItem, expand, found, andTh
 use Rattle.model.specs.Forms.{numberIn, figureIn}
 use Rattle.model.specs.Forms.{behind, timesIn, itemIn, itemsIn, same, closing, wordRows, boardRow, proposeRow}
 use Rattle.model.specs.Forms.{stepsRow, showRow, listIn, stationsIn, roundIn, roundsIn, roundsRow, rowIn}
+use Rattle.model.specs.Forms.{pairIn, pairsIn, singleIn, togetherIn}
 use Rattle.model.specs.Forms.{upToStop, firstWord, wordPlace, formIn, one, tooDeep, orFour, readLine}
 use Rattle.model.specs.Sheet.{refusedText, orRefused, laidText, proposedText, ranText, playedText, shownText}
-use Rattle.model.specs.Sheet.{turnedDown}
+use Rattle.model.specs.Sheet.{togetherText, turnedDown}
 use Rattle.model.specs.Sheet.{playBoard, onBoard, playForm, playReading, playLine, printed}
 use Rattle.model.specs.Sheet.{playSheet}
 
@@ -54,5 +57,6 @@ unfolding Starred Holds rise rows sheet asLines layIn number digits part splice 
     tooDeep orFour readLine refusedText orRefused laidText proposedText ranText shownText turnedDown playBoard onBoard
     playForm playReading playLine onFirst endedBy printed playSheet outcome ranges
     count listIn stationsIn roundIn roundsIn names inTurn roundSteps roundsSteps settled allSettled rising roundKnown
-    roundsKnown roundsRefusal standsDecided decidedOn playedTo rounds playedText
-starred = (refl, (refl, (refl, (refl, (refl, (refl, (refl, (refl, (refl, (refl, (refl, (refl, tt))))))))))))
+    roundsKnown roundsRefusal standsDecided decidedOn playedTo rounds playedText pairIn pairsIn singleIn togetherIn named
+    eachOnce firstFault proposalsRefusal oneByOne proposeAll togetherText
+starred = (refl, (refl, (refl, (refl, (refl, (refl, (refl, (refl, (refl, (refl, (refl, (refl, (refl, tt)))))))))))))

@@ -1,6 +1,6 @@
 -- Lists of bytes: numbers of several bytes, tests that compute, and the one way in which bytes change.
 -- Relies on Kit; every other definition relies on it.
-use Rattle.model.specs.Kit.{Bool, true, not, _&&_, _||_, cond, List, [], _∷_, _++_, ℕ, zero, suc, _+_, _*_, _/_}
+use Rattle.model.specs.Kit.{Bool, true, false, not, _&&_, _||_, cond, List, [], _∷_, _++_, ℕ, zero, suc, _+_, _*_, _/_}
 use Rattle.model.specs.Kit.{_%_, eqb, length, getD, take, drop}
 
 -- byte i of a list, and 0 past its end
@@ -39,6 +39,16 @@ every (suc k) f = every k f && f k
 unfoldable pub count : ℕ → (ℕ → Bool) → ℕ
 count zero f = 0
 count (suc k) f = count k f + cond (f k) 1 0
+
+-- the number i stands in a list
+unfoldable pub names : (i : ℕ) → List ℕ → Bool
+names i [] = false
+names i (j ∷ js) = eqb i j || names i js
+
+-- each thing of a list is as asked
+unfoldable pub Each : {A : Type 0} → (A → Type 0) → List A → Type 0
+Each P [] = Unit {0}
+Each P (x ∷ xs) = P x × Each P xs
 
 -- where the first test passes, so does the second
 unfoldable pub implies : Bool → Bool → Bool

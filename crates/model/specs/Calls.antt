@@ -93,10 +93,14 @@ notIdle (active v s) = some 13
 abbrev pub putProposal : (n K j : ℕ) → Figure → List ℕ → List ℕ
 putProposal n K j v b = putRecord n K j (recordFields (proposed v) (withSteps 0 (fieldsOf n K j b))) b
 
+-- what a sound board refuses of a proposal of station number i: 12, then 13
+abbrev pub proposalRefusal : (i : ℕ) → List ℕ → Refusal
+proposalRefusal i b = stationRefusal i b (notIdle (stationAt i b))
+
 -- "A proposal sets an idle station to phase 1", after the board's refusals, 12 and 13.
 unfoldable pub propose : (i : ℕ) → Figure → List ℕ → After Refusal
 propose i v b =
-    unlessRefused (boardRefusal b (stationRefusal i b (notIdle (stationAt i b)))) some b
+    unlessRefused (boardRefusal b (proposalRefusal i b)) some b
     (record { answer = none; bytes = putProposal (stations b) (islands b) (i - 1) v b })
 
 -- "14. The station to step is idle. 15. The station to step has decided. 16. The station to step is spent."

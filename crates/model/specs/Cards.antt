@@ -144,13 +144,13 @@ presentAt K (turnB f) c x (seen third k y) = finish K (turnB f) c second k y
 -- ---- the table
 
 -- the proposals of stations i, i + 1, .. in turn
-unfoldable pub proposeAll : (i : ℕ) → List Figure → List ℕ → List ℕ
-proposeAll i [] b = b
-proposeAll i (v ∷ vs) b = proposeAll (suc i) vs (propose i v b .bytes)
+unfoldable pub proposeFrom : (i : ℕ) → List Figure → List ℕ → List ℕ
+proposeFrom i [] b = b
+proposeFrom i (v ∷ vs) b = proposeFrom (suc i) vs (propose i v b .bytes)
 
 -- the board after single steps, from a fresh one on which the stations 1, 2, .. proposed
 unfoldable pub boardAfter : (n K : ℕ) → List Figure → (is : List ℕ) → List ℕ
-boardAfter n K vs is = after step (proposeAll 1 vs (lay n K (replicate (boardLength n K) 0) .bytes)) is
+boardAfter n K vs is = after step (proposeFrom 1 vs (lay n K (replicate (boardLength n K) 0) .bytes)) is
 
 pub record Row : Type 0 where
   pub card : Card

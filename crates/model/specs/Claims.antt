@@ -15,6 +15,7 @@ use Rattle.model.specs.Listing.{placeArray, placeColumn, move}
 use Rattle.model.specs.Layout.{registerOf, recordOf, stationOf}
 use Rattle.model.specs.Calls.{After, notRun, stations, islands, boardRefusal, lay, propose, step, run}
 use Rattle.model.specs.Rounds.{notPlayed, rounds}
+use Rattle.model.specs.Proposals.{Proposal, AllFit, proposeAll}
 
 -- ---- "A refusal answers its number only and changes no byte."
 
@@ -25,6 +26,9 @@ pub record Unaltered : Type 0 where
   pub running : (is b : List ℕ) (k : ℕ) → run is b .answer ≡ notRun k → run is b .bytes ≡ b
   pub playing : (k : ℕ) (rs : List (List ℕ)) (b : List ℕ) (number : ℕ) → rounds k rs b .answer ≡ notPlayed number
       → rounds k rs b .bytes ≡ b
+  -- 02: "All are accepted or none"
+  pub together : (ps : List Proposal) (b : List ℕ) (k : ℕ) → proposeAll ps b .answer ≡ some k
+      → proposeAll ps b .bytes ≡ b
 
 -- ---- "A board that keeps all this is *sound*; accepted calls keep it so."
 
@@ -39,6 +43,7 @@ pub record KeepSound : Type 0 where
   pub stepping : (i : ℕ) (b : List ℕ) → Passes b → Passes (step i b .bytes)
   pub running : (is b : List ℕ) → Passes b → Passes (run is b .bytes)
   pub playing : (k : ℕ) (rs : List (List ℕ)) (b : List ℕ) → Passes b → Passes (rounds k rs b .bytes)
+  pub together : (ps : List Proposal) → AllFit ps → (b : List ℕ) → Passes b → Passes (proposeAll ps b .bytes)
 
 -- ---- "on a sound board, reached from a fresh one or not, its answer and the bytes it alters follow from n, K, the
 -- station's own record .. and, where it reads, that one register"

@@ -6,7 +6,9 @@ use mathlib.Core.List.{map}
 use Rattle.model.specs.Calls.{ran, boardRefusal}
 use Rattle.model.specs.Show.{text}
 use Rattle.model.specs.Forms.{Form, station, times, Items, done, next, board, propose, steps, show, Reading}
-use Rattle.model.specs.Forms.{rounds, reads, unread, readLine}
+use Rattle.model.specs.Forms.{rounds, proposals, reads, unread, readLine}
+use Rattle.model.specs.Figure.{Figure}
+use Rattle.model.specs.Proposals.{Proposal}
 use Rattle.model.specs.Sheet.{ranText, turnedDown, playLine}
 
 -- what `(steps (times k 1))` holds
@@ -21,6 +23,9 @@ pub record Row : Type 0 where
 unfoldable pub deep : (k : ℕ) → Items
 deep zero = next (station 1) done
 deep (suc k) = next (times 1 (deep k)) done
+
+unfoldable pub pair : (i : ℕ) → Figure → Proposal
+pair i v = record { station = i; figure = v }
 
 unfoldable pub rows : List Row
 rows =
@@ -90,6 +95,35 @@ rows =
     ∷ record { line = text "(rounds 1 2)"; reading = unread 4 }
     ∷ record { line = text "(rounds 1 (1 (2)))"; reading = unread 4 }
     ∷ record { line = text "(rounds 1 ()"; reading = unread 4 }
+    -- 02: "`(propose (1 -40) (2 15))`, at least one pair", beside `(propose i v)`; a station may be named twice here
+    ∷ record {
+      line = text "(propose (1 -40) (2 15))";
+      reading = reads (proposals (pair 1 (negsuc 39) ∷ pair 2 (pos 15) ∷ []));
+    }
+    ∷ record {
+      line = text "(propose (99 2147483647) (0 -2147483648))";
+      reading = reads (proposals (pair 99 (pos 2147483647) ∷ pair 0 (negsuc 2147483647) ∷ []));
+    }
+    ∷ record { line = text "(propose (1 5))"; reading = reads (proposals (pair 1 (pos 5) ∷ [])) }
+    ∷ record {
+      line = text "(propose (1 5) (1 5))";
+      reading = reads (proposals (pair 1 (pos 5) ∷ pair 1 (pos 5) ∷ []));
+    }
+    ∷ record { line = text "(propose)"; reading = unread 4 }
+    ∷ record { line = text "(propose ())"; reading = unread 4 }
+    ∷ record { line = text "(propose (1))"; reading = unread 4 }
+    ∷ record { line = text "(propose (1 2 3))"; reading = unread 4 }
+    ∷ record { line = text "(propose (1 2)(3 4))"; reading = unread 4 }
+    ∷ record { line = text "(propose(1 2))"; reading = unread 4 }
+    ∷ record { line = text "(propose (1 2) )"; reading = unread 4 }
+    ∷ record { line = text "(propose ( 1 2))"; reading = unread 4 }
+    ∷ record { line = text "(propose (1 2 ))"; reading = unread 4 }
+    ∷ record { line = text "(propose ((1 2)))"; reading = unread 4 }
+    ∷ record { line = text "(propose (1 2) 3 4)"; reading = unread 4 }
+    ∷ record { line = text "(propose 1 (2 3))"; reading = unread 4 }
+    ∷ record { line = text "(propose (100 2))"; reading = unread 4 }
+    ∷ record { line = text "(propose (1 -0))"; reading = unread 4 }
+    ∷ record { line = text "(propose (1 2)"; reading = unread 4 }
     -- "The line is none of the forms"
     ∷ record { line = text ""; reading = unread 4 }
     ∷ record { line = text "(show"; reading = unread 4 }

@@ -5,6 +5,7 @@ use Rattle.model.specs.Kit.{zero, suc, _+_, _*_, _-_, eqb, leb, ltb, len
 use Rattle.model.specs.Bytes.{byte}
 use Rattle.model.specs.Figure.{Figure}
 use Rattle.model.specs.Calls.{unless}
+use Rattle.model.specs.Proposals.{Proposal}
 use Rattle.model.specs.Show.{text}
 
 -- "An item is a station number or `(times k item ..)`, which holds at least one item again"
@@ -24,6 +25,8 @@ pub data Form : Type 0 where
   show : Form
   -- 02: "`(rounds k (2) () ..)` names the stations suspended in each round"
   rounds : (k : ℕ) → List (List ℕ) → Form
+  -- and "we enter figures in one line, `(propose (1 -40) (2 15))`"
+  proposals : List Proposal → Form
 
 unfoldable pub repeated : (k : ℕ) → List ℕ → List ℕ
 repeated zero l = []
@@ -120,7 +123,7 @@ unfoldable mutual
       cond (eqb (byte l 0) 41) (found done (drop 1 l))
       (andThen (spaced (λ k. itemIn fuel k) l) λ i more. andThen (itemsIn fuel more) λ is rest. found (next i is) rest)
 
--- ---- lists of one kind of thing, and rounds
+-- ---- lists of one kind of thing, rounds and pairs
 
 -- things, each behind a space, up to the closing bracket; fuel bounds their number
 unfoldable pub listIn : {A : Type 0} → (List ℕ → Option (Read A)) → (fuel : ℕ) → List ℕ → Option (Read (List A))
@@ -145,6 +148,19 @@ roundIn l = cond (eqb (byte l 0) 40) (opened (drop 1 l)) none
 unfoldable pub roundsIn : List ℕ → Option (Read (List (List ℕ)))
 roundsIn l = listIn roundIn (length l + 1) l
 
+-- a pair in brackets: "(1 -40)"
+unfoldable pub pairIn : List ℕ → Option (Read Proposal)
+pairIn l = cond (eqb (byte l 0) 40) (opened (drop 1 l)) none
+  where
+    closed : (i : ℕ) → Figure → List ℕ → Option (Read Proposal)
+    closed i v rest = cond (eqb (byte rest 0) 41) (found (record { station = i; figure = v }) (drop 1 rest)) none
+
+    opened : List ℕ → Option (Read Proposal)
+    opened k = andThen (numberIn 0 99 k) λ i more. andThen (spaced figureIn more) (closed i)
+
+unfoldable pub pairsIn : List ℕ → Option (Read (List Proposal))
+pairsIn l = listIn pairIn (length l + 1) l
+
 -- ---- the forms by their words
 
 -- the bracket that ends the line
@@ -156,7 +172,7 @@ pub record WordRow : Type 0 where
   pub word : List ℕ
   pub reader : List ℕ → Option Form
 
--- `(board n K)`, `(propose i v)`, `(steps item ..)`, `(show)`; "n, K and stations are 0 to 99"
+-- `(board n K)`, `(steps item ..)`, `(show)`; "n, K and stations are 0 to 99"
 unfoldable pub boardRow : WordRow
 boardRow = record {
   word = text "board";
@@ -164,12 +180,18 @@ boardRow = record {
       andThen (spaced (numberIn 0 99) k) λ K rest. closing (board n K) rest;
 }
 
+-- `(propose i v)`
+unfoldable pub singleIn : List ℕ → Option Form
+singleIn l =
+    andThen (spaced (numberIn 0 99) l) λ i k. andThen (spaced figureIn k) λ v rest. closing (propose i v) rest
+
+-- `(propose (1 -40) (2 15))`
+unfoldable pub togetherIn : List ℕ → Option Form
+togetherIn l = andThen (pairsIn l) λ ps rest. cond (same rest []) (some (proposals ps)) none
+
+-- "at least one pair": a bracket behind the space begins pairs
 unfoldable pub proposeRow : WordRow
-proposeRow = record {
-  word = text "propose";
-  reader =
-      λ l. andThen (spaced (numberIn 0 99) l) λ i k. andThen (spaced figureIn k) λ v rest. closing (propose i v) rest;
-}
+proposeRow = record { word = text "propose"; reader = λ l. cond (eqb (byte l 1) 40) (togetherIn l) (singleIn l) }
 
 unfoldable pub stepsRow : WordRow
 stepsRow = record {

@@ -1,12 +1,14 @@
 -- 01's grammar as a writer of forms, and the claims that the reader of Forms reads it and nothing else.
 -- Relies on the forms, texts and numbers; proofs/Sheet/Written.antt and proofs/Sheet/WrittenBack.antt prove the claims.
-use Rattle.model.specs.Kit.{List, [], _∷_, _++_, some, ℕ, _≤_}
+use Rattle.model.specs.Kit.{List, [], _∷_, _++_, some, ℕ, _≤_, length}
 use mathlib.Core.Path.{_≡_}
 use mir.Syntax.{w32}
 use mir.Val.{SFits}
+use Rattle.model.specs.Bytes.{Each}
 use Rattle.model.specs.Show.{text, decimal, signed}
 use Rattle.model.specs.Forms.{Item, station, times, Items, done, next, Form, board, propose, steps, show, rounds}
-use Rattle.model.specs.Forms.{formIn}
+use Rattle.model.specs.Forms.{proposals, formIn}
+use Rattle.model.specs.Proposals.{Proposal}
 
 -- "An item is a station number or `(times k item ..)`", and each item stands behind a space
 unfoldable mutual
@@ -28,14 +30,19 @@ unfoldable pub writtenRound : List ℕ → List ℕ
 writtenRound [] = text "()"
 writtenRound (i ∷ is) = text "(" ++ (decimal i ++ (writtenList decimal is ++ text ")"))
 
+-- a pair in brackets: "(1 -40)"
+unfoldable pub writtenPair : Proposal → List ℕ
+writtenPair p = text "(" ++ (decimal (p .station) ++ (text " " ++ (signed (p .figure) ++ text ")")))
+
 -- "`(board n K)`", "`(propose i v)`", "`(steps item ..)`, perhaps with no item", "`(show)`", and 02's
--- "`(rounds k (2) () ..)`"
+-- "`(rounds k (2) () ..)`" and "`(propose (1 -40) (2 15))`"
 unfoldable pub written : Form → List ℕ
 written (board n K) = text "(board " ++ (decimal n ++ (text " " ++ (decimal K ++ text ")")))
 written (propose i v) = text "(propose " ++ (decimal i ++ (text " " ++ (signed v ++ text ")")))
 written (steps is) = text "(steps" ++ (writtenItems is ++ text ")")
 written show = text "(show)"
 written (rounds k rs) = text "(rounds " ++ (decimal k ++ (writtenList writtenRound rs ++ text ")"))
+written (proposals ps) = text "(propose" ++ (writtenList writtenPair ps ++ text ")")
 
 -- "at least one item"
 unfoldable pub AtLeastOne : Items → Type 0
@@ -52,18 +59,18 @@ unfoldable mutual
   ItemsInRange done = Unit {0}
   ItemsInRange (next i is) = ItemInRange i × ItemsInRange is
 
--- each thing of a list is as asked
-unfoldable pub Each : {A : Type 0} → (A → Type 0) → List A → Type 0
-Each P [] = Unit {0}
-Each P (x ∷ xs) = P x × Each P xs
+unfoldable pub PairInRange : Proposal → Type 0
+PairInRange p = (p .station ≤ 99) × SFits w32 (p .figure)
 
--- "n, K and stations are 0 to 99"; "A figure is a signed 32-bit whole number; its full width is allowed."
+-- "n, K and stations are 0 to 99"; "A figure is a signed 32-bit whole number; its full width is allowed."; "at least
+-- one pair"
 unfoldable pub InRange : Form → Type 0
 InRange (board n K) = (n ≤ 99) × (K ≤ 99)
 InRange (propose i v) = (i ≤ 99) × SFits w32 v
 InRange (steps is) = ItemsInRange is
 InRange show = Unit {0}
 InRange (rounds k rs) = (k ≤ 99) × Each (Each (λ i. i ≤ 99)) rs
+InRange (proposals ps) = (1 ≤ length ps) × Each PairInRange ps
 
 -- The reader finds in a written form that form ..
 unfoldable pub ReadsWritten : Type 0

@@ -10,8 +10,10 @@ pub mod Sound
 pub mod Calls
 pub mod Runs
 pub mod Rounds
+pub mod Proposals
 pub mod Claims
 pub mod WholeSteps
+pub mod AnyOrder
 pub mod Standing
 pub mod Show
 pub mod Told

@@ -1,8 +1,8 @@
 -- 02, One, "Halts by the round": a call that plays rounds, each spelled out as its single steps.
 -- Relies on the calls; the sheet's form `rounds`, the public call and the whole-step law rely on it.
-use Rattle.model.specs.Kit.{Bool, true, false, _&&_, _||_, cond, List, [], _∷_, _++_, none, ℕ, zero, suc, _+_}
-use Rattle.model.specs.Kit.{eqb, leb, ltb, length, replicate}
-use Rattle.model.specs.Bytes.{every, count, endedBy}
+use Rattle.model.specs.Kit.{Bool, true, false, _&&_, cond, List, [], _∷_, _++_, none, ℕ, zero, suc, _+_}
+use Rattle.model.specs.Kit.{leb, ltb, length, replicate}
+use Rattle.model.specs.Bytes.{every, count, names, endedBy}
 use Rattle.model.specs.Figure.{Figure}
 use Rattle.model.specs.Listing.{writing, reading, has-decided, is-spent, Station, idle, active}
 use Rattle.model.specs.Layout.{stationOf}
@@ -11,11 +11,6 @@ use Rattle.model.specs.Calls.{After, Refusal, unless, unlessRefused, sta
 use Rattle.model.specs.Calls.{ranFrom}
 
 -- ---- which steps a round is
-
--- a round names the station number i
-unfoldable pub names : (i : ℕ) → List ℕ → Bool
-names i [] = false
-names i (j ∷ js) = eqb i j || names i js
 
 -- the stations 1 to i that are not suspended, in station order, each for so many single steps
 unfoldable pub inTurn : (steps i : ℕ) → (suspended : ℕ → Bool) → List ℕ

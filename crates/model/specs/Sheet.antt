@@ -8,10 +8,11 @@ use Rattle.model.specs.Calls as calls
 use Rattle.model.specs.Calls.{After, Refusal, RunAnswer, ran, notRun}
 use Rattle.model.specs.Rounds as byRound
 use Rattle.model.specs.Rounds.{RoundsAnswer}
+use Rattle.model.specs.Proposals.{proposeAll}
 use Rattle.model.specs.Show.{text, decimal, signed, Shown}
 use Rattle.model.specs.Show as shows
 use Rattle.model.specs.Forms.{Form, board, propose, steps, show, rounds, expand, Reading, reads, unread}
-use Rattle.model.specs.Forms.{readLine}
+use Rattle.model.specs.Forms.{proposals, readLine}
 
 -- What a line prints, without its LF; how many bytes of the memory are the board that was laid last, 0 for none; and
 -- the memory afterwards.
@@ -22,7 +23,7 @@ pub record Played : Type 0 where
 
 -- the highest number that a refusal has
 unfoldable pub lastRefusal : ℕ
-lastRefusal = 19
+lastRefusal = 20
 
 -- "A refused line prints `(refused N)`."
 unfoldable pub refusedText : (number : ℕ) → List ℕ
@@ -47,6 +48,10 @@ ranText (notRun k) = refusedText k
 unfoldable pub playedText : RoundsAnswer → List ℕ
 playedText (byRound.played r d) = text "(played " ++ decimal r ++ text " " ++ decimal d ++ text ")"
 playedText (byRound.notPlayed k) = refusedText k
+
+-- "It prints `(proposed m)`, m pairs." (02)
+unfoldable pub togetherText : (pairs : ℕ) → List ℕ
+togetherText m = text "(proposed " ++ decimal m ++ text ")"
 
 unfoldable pub shownText : Shown → List ℕ
 shownText s = orRefused (s .refusal) (take (s .len) (s .line))
@@ -83,6 +88,7 @@ module _ (laid : ℕ) (m : List ℕ) where
   playForm (steps is) = onBoard ranText (calls.run (expand is))
   playForm show = onBoard shownText (λ b. record { answer = shows.show b; bytes = b })
   playForm (rounds k rs) = onBoard playedText (byRound.rounds k rs)
+  playForm (proposals ps) = onBoard (λ a. orRefused a (togetherText (length ps))) (proposeAll ps)
 
   unfoldable pub playReading : Reading Form → Played
   playReading (reads f) = playForm f

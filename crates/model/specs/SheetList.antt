@@ -8,17 +8,22 @@ use mathlib.Core.List.{map}
 use Rattle.model.specs.Layout.{boardLength}
 use Rattle.model.specs.Calls.{stations, lay}
 use Rattle.model.specs.Rounds.{roundsRefusal, roundsSteps}
+use Rattle.model.specs.Proposals.{Proposal, proposalsRefusal}
 use Rattle.model.specs.Forms.{Form, board, propose, steps, show, rounds, expand, Reading, reads, unread}
-use Rattle.model.specs.Forms.{readLine}
+use Rattle.model.specs.Forms.{proposals, readLine}
 use Rattle.model.specs.Sheet.{Played, refusedText, playBoard, playLine, linesOf}
 use Rattle.model.specs.AnyList.{Call, proposing, stepping, after, Demand3}
 
 -- ---- the calls of a line
 
+unfoldable pub singles : List Proposal → List Call
+singles ps = map (λ (p : Proposal). proposing (p .station) (p .figure)) ps
+
 -- "A sheet's line stands in the list as the single calls it makes; a show alters nothing." The calls are those on the
 -- board that the line is lent. A `steps` line that is turned down with 6 makes none. An accepted `board` begins another
 -- list, and a refused one is not lent the laid board. 02, of a `rounds` line: "each round spelled out as its single
--- steps"; one that is refused makes none.
+-- steps"; one that is refused makes none. Nor does a line of pairs that is refused; an accepted one is its single
+-- proposals.
 unfoldable pub formCalls : (lent : List ℕ) → Form → List Call
 formCalls b (board n K) = []
 formCalls b (propose i v) = proposing i v ∷ []
@@ -26,6 +31,7 @@ formCalls b (steps is) = cond (leb (length (expand is)) 65536) (map stepping (ex
 formCalls b show = []
 formCalls b (rounds k rs) =
     elim (roundsRefusal k rs b) [ none ↦ map stepping (roundsSteps (stations b) rs) | some number ↦ [] ]
+formCalls b (proposals ps) = elim (proposalsRefusal ps b) [ none ↦ singles ps | some number ↦ [] ]
 
 unfoldable pub callsOf : (lent : List ℕ) → Reading Form → List Call
 callsOf b (reads f) = formCalls b f

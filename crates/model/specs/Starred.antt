@@ -81,6 +81,17 @@ rows =
     "(laid 3 2)" ∷ "(proposed 1 7)" ∷ "(proposed 2 3)" ∷ "(proposed 3 5)" ∷ "(ran 2 0)" ∷ "(ran 24 0)" ∷ "(ran 22 0)"
     ∷ "(stations (1 decided 0 7) (2 decided 1 7) (3 decided 0 7))" ∷ []
     )
+    -- not starred: figures put in together, 20 before 12, faults pair by pair as written, and nothing put in of a line
+    -- that is refused
+    ∷ sheet (
+    "(propose (1 5))" ∷ "(board 3 2)" ∷ "(propose (2 15) (1 -40))" ∷ "(propose (3 1) (1 5))" ∷ "(propose (4 1) (4 1))"
+    ∷ "(propose (3 1) (1 2) (4 2))" ∷ "(propose (3 1) (4 2) (1 2))" ∷ "(propose (1 2) (3 7) (3 8))" ∷ "(show)"
+    ∷ "(propose (3 7))" ∷ "(show)" ∷ []
+    ) (
+    "(refused 5)" ∷ "(laid 3 2)" ∷ "(proposed 2)" ∷ "(refused 13)" ∷ "(refused 20)" ∷ "(refused 13)" ∷ "(refused 12)"
+    ∷ "(refused 20)" ∷ "(stations (1 going 0 -40) (2 going 0 15) (3 idle))" ∷ "(proposed 1)"
+    ∷ "(stations (1 going 0 -40) (2 going 0 15) (3 going 0 7))" ∷ []
+    )
     -- not starred: rounds as 02 has them, in which station 1 collects before station 2 writes and goes on with its own
     -- 3; 19 for the second of two rounds, with nothing played of the first; 18 before 19
     ∷ sheet (

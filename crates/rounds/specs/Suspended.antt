@@ -6,7 +6,7 @@ use mathlib.Core.List.{List}
 use Prim.Native.Nat.{ℕ, _-_, _≤_}
 use lib.Dec.{eqb}
 use lib.ListN.{length, getD}
-use Rattle.model.specs.Rounds.{names}
+use Rattle.model.specs.Bytes.{names}
 
 unfoldable pub suspended : List Bool → ℕ → Bool
 suspended halted i = getD halted (i - 1) false

@@ -18,7 +18,7 @@ use Rattle.model.specs.Sheet.{turnedDown, playBoard, onBoard, playForm, playRea
 use Rattle.model.proofs.Basics.Tests.{cond-case}
 use Rattle.model.proofs.Calls.Refusals.{laid-fresh, refusal-case, unless-none, board-of}
 use Rattle.model.proofs.Sheet.Readers.{Always}
-use Rattle.model.specs.Grammar.{Each}
+use Rattle.model.specs.Bytes.{Each}
 use Rattle.model.proofs.Sheet.WrittenBack.{row-stood}
 use Rattle.model.proofs.Sheet.PlayedLines.{board-refused, board-lays}
 use Rattle.model.proofs.Sheet.EachForm.{each-form}

@@ -2,11 +2,11 @@
 -- Relies on the model's written rounds and on steps put together; the proof of `play_rounds_at` relies on it.
 use Rattle.model.proofs.Kit.{_≡_, refl, sym, ap, subst, _∙_, List, [], _∷_, _++_, append-assoc, append-nil, none}
 use Rattle.model.proofs.Kit.{ℕ, _+_, _-_, _≤_, _<_, length, drop, getD, lt-of-not-le, drop-of-length-le, arith}
-use Rattle.model.specs.Bytes.{byte}
+use Rattle.model.specs.Bytes.{byte, Each}
 use Rattle.model.specs.Show.{text, textFrom}
 use Rattle.model.specs.Calls.{stations, boardRefusal, stepOn}
 use Rattle.model.specs.Forms.{found, roundIn, roundsIn}
-use Rattle.model.specs.Grammar.{Each, writtenList, writtenRound}
+use Rattle.model.specs.Grammar.{writtenList, writtenRound}
 use Rattle.model.specs.Rounds.{roundsSteps}
 use Rattle.model.specs.Runs.{after}
 use Rattle.model.proofs.Basics.Tests.{impossible}

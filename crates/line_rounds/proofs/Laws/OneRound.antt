@@ -4,10 +4,10 @@
 use Rattle.model.proofs.Kit.{_≡_, refl, sym, ap, subst, _∙_, Bool, false, List, [], _∷_, _++_, append-nil}
 use Rattle.model.proofs.Kit.{append-assoc, ℕ, _+_, _-_, _≤_, _<_, length, drop, length-drop, getD, w8, Fits}
 use Rattle.model.proofs.Kit.{drop-of-length-le, lt-of-not-le, length-append, drop-drop, arith}
-use Rattle.model.specs.Bytes.{byte}
+use Rattle.model.specs.Bytes.{byte, Each}
 use Rattle.model.specs.Show.{text, textFrom, decimal}
 use Rattle.model.specs.Forms.{found, digit, numberIn, roundIn}
-use Rattle.model.specs.Grammar.{Each, writtenList, writtenRound}
+use Rattle.model.specs.Grammar.{writtenList, writtenRound}
 use Rattle.model.proofs.Basics.Tests.{impossible, clash}
 use Rattle.model.proofs.Sheet.Readers.{Always}
 use Rattle.model.proofs.Sheet.Numbers.{decimal-begins}

@@ -1,14 +1,17 @@
--- A part of a list of bytes after a splice: what was spliced in, or what stood there before. Splices that are one: of
--- no byte, of one byte, of two lists side by side, and of a list into one that was put in before.
+-- A part of a list of bytes after a splice: what was spliced in, or what stood there before. Two splices in either
+-- order, and splices that are one: of no byte, of one byte, of two lists side by side, and of a list into one that was
+-- put in before.
 -- Relies on Bytes; the laws on boards and on lines that are written piece by piece rely on it.
 use Rattle.model.proofs.Kit.{_≡_, sym, ap, _∙_, List, [], _∷_, _++_, append-assoc, append-nil, ℕ, zero, suc, _+_}
 use Rattle.model.proofs.Kit.{_-_, _≤_, _<_, length, take, drop, length-drop, drop-of-length-le, set}
 use Rattle.model.proofs.Kit.{length-append, take-append-drop, drop-drop, take-all, add-zero, zero-add, arith}
+use Rattle.model.proofs.Kit.{ltb, ltb-true, ltb-false}
 use native.Mathlib.Nat.{suc-add}
 use lib.ListN.{length-take, List·getD-append}
 use lib.Seq.{length-take-le, take-append-seam, take-append-add, take-append-le, drop-append-add, drop-append-le}
 use lib.Seq.{ext-getD, getD-take, getD-drop, getD-append-add, sets-eq, drop-at}
 use Rattle.model.specs.Bytes.{byte, part, splice}
+use Rattle.model.proofs.Basics.Tests.{by-test}
 
 pub length-part : (at len : ℕ) (b : List ℕ) → at + len ≤ length b → length (part at len b) ≡ len
 unfolding part
@@ -54,6 +57,12 @@ module _ (at : ℕ) (v b : List ℕ) (fits : at + length v ≤ length b) where
   unfolding part splice
   part-same = rw (append-assoc, drop-at (take at b) _ at head-length) (take-append-seam v _)
 
+  byte-same : (j : ℕ) → at ≤ j → j < at + length v → byte (splice at v b) j ≡ byte v (j - at)
+  byte-same j h l =
+      let from-there : at + (j - at) ≡ j = omega arith in
+      ap (byte (splice at v b)) (sym from-there)
+      ∙ sym (byte-part at (length v) (splice at v b) (j - at) (omega arith)) ∙ ap (λ (w : List ℕ). byte w (j - at)) part-same
+
   part-as : (from len : ℕ) → from + len ≤ length b
       → ((i : ℕ) → i < len → byte (splice at v b) (from + i) ≡ byte b (from + i))
       → part from len (splice at v b) ≡ part from len b
@@ -67,6 +76,51 @@ module _ (at : ℕ) (v b : List ℕ) (fits : at + length v ≤ length b) where
   pub part-after : (from len : ℕ) → at + length v ≤ from → from + len ≤ length b
       → part from len (splice at v b) ≡ part from len b
   part-after from len h k = part-as from len k (λ i l. byte-after (from + i) (omega arith))
+
+-- two that do not meet, the one before or after the other
+pub splice-apart : (at : ℕ) (u : List ℕ) (from : ℕ) (v b : List ℕ) → at + length u ≤ from → from + length v ≤ length b
+    → splice from v (splice at u b) ≡ splice at u (splice from v b)
+splice-apart at u from v b h fits =
+    ext-getD 0 _ _ (length-splice from v _ outer ∙ lu ∙ sym (length-splice at u _ inner ∙ lv)) (λ j l. at-byte j)
+  where
+    first : at + length u ≤ length b
+    first = omega arith
+
+    lu : length (splice at u b) ≡ length b
+    lu = length-splice at u b first
+
+    lv : length (splice from v b) ≡ length b
+    lv = length-splice from v b fits
+
+    outer : from + length v ≤ length (splice at u b)
+    outer = omega (arith, lu)
+
+    inner : at + length u ≤ length (splice from v b)
+    inner = omega (arith, lv)
+
+    at-byte : (j : ℕ) → byte (splice from v (splice at u b)) j ≡ byte (splice at u (splice from v b)) j
+    at-byte j =
+        by-test (ltb j at)
+        (λ e. let l = ltb-true j at e in
+        byte-before from v _ outer j (omega arith) ∙ byte-before at u b first j l
+        ∙ sym (byte-before at u _ inner j l ∙ byte-before from v b fits j (omega arith)))
+        (λ e. let l = ltb-false j at e in
+        by-test (ltb j (at + length u))
+        (λ f. let m = ltb-true j (at + length u) f in
+        byte-before from v _ outer j (omega arith) ∙ byte-same at u b first j l m ∙ sym (byte-same at u _ inner j l m))
+        (λ f. let m = ltb-false j (at + length u) f in behind j m ∙ sym (byte-after at u _ inner j m)))
+      where
+        behind : (j : ℕ) → at + length u ≤ j → byte (splice from v (splice at u b)) j ≡ byte (splice from v b) j
+        behind j m =
+            by-test (ltb j from)
+            (λ e. let l = ltb-true j from e in
+            byte-before from v _ outer j l ∙ byte-after at u b first j m ∙ sym (byte-before from v b fits j l))
+            (λ e. let l = ltb-false j from e in
+            by-test (ltb j (from + length v))
+            (λ f. let k = ltb-true j (from + length v) f in
+            byte-same from v _ outer j l k ∙ sym (byte-same from v b fits j l k))
+            (λ f. let k = ltb-false j (from + length v) f in
+            byte-after from v _ outer j k ∙ byte-after at u b first j m ∙ sym (byte-after from v b fits j k)))
 
 -- ---- splices that are one
 

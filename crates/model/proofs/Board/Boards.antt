@@ -10,6 +10,7 @@ use Rattle.model.specs.Layout.{boardLength, registerAt, recordAt, layRec
 use Rattle.model.specs.Layout.{withSteps, putChanges}
 use Rattle.model.specs.Calls.{putRecord, putRegister}
 use Rattle.model.proofs.Basics.Splices.{length-splice, byte-before, part-same, part-before, part-after}
+use Rattle.model.proofs.Basics.Splices.{splice-apart}
 use Rattle.model.proofs.Board.Places.{InBoard, head-first, register-inside, record-inside, register-fits}
 use Rattle.model.proofs.Board.Places.{head-before-records, records-apart, registers-apart}
 use Rattle.model.proofs.Board.Changes.{all-put}
@@ -62,6 +63,18 @@ module _ (n K : ℕ) (b : List ℕ) (len : length b ≡ boardLength n K) (i : �
   unfolding putRecord registerPart
   record-register a j h l =
       part-before (recordAt n K i) (layRecord f) b fits (registerAt n a j) 8 (register-inside n K a j i h l)
+
+-- the records of two stations are put in in either order
+pub records-commute : (n K : ℕ) (b : List ℕ) → length b ≡ boardLength n K → (i j : ℕ) → i < n → j < n → (i ≡ j → ⊥)
+    → (f g : Record) → putRecord n K j g (putRecord n K i f b) ≡ putRecord n K i f (putRecord n K j g b)
+unfolding putRecord
+records-commute n K b len i j hi hj ne f g =
+    ⊎-elim
+    (λ (l : recordAt n K i + 24 ≤ recordAt n K j). splice-apart (recordAt n K i) (layRecord f) (recordAt n K j)
+    (layRecord g) b (omega (arith, length-record f)) (fits n K b len j hj g))
+    (λ (l : recordAt n K j + 24 ≤ recordAt n K i). sym (splice-apart (recordAt n K j) (layRecord g) (recordAt n K i)
+    (layRecord f) b (omega (arith, length-record g)) (fits n K b len i hi f)))
+    (records-apart n K i j ne)
 
 -- other steps put into a station's record that was put in
 pub steps-over : (n K : ℕ) (b : List ℕ) → length b ≡ boardLength n K → (i : ℕ) → i < n

@@ -11,7 +11,8 @@ use Rattle.model.specs.Calls.{After, Refusal, stations, islands, station
 use Rattle.model.specs.Calls.{stepOn, step}
 use Rattle.model.specs.Runs.{after, answers}
 use Rattle.model.specs.Claims.{Passes}
-use Rattle.model.specs.Rounds.{names, inTurn, roundSteps, roundsSteps, settled, allSettled}
+use Rattle.model.specs.Bytes.{names}
+use Rattle.model.specs.Rounds.{inTurn, roundSteps, roundsSteps, settled, allSettled}
 use Rattle.model.specs.WholeSteps.{WholeStep, WholeSteps}
 use Rattle.model.proofs.Basics.Tests.{true-T, T-true, every-at, every-all, cond-case}
 use Rattle.model.proofs.Listing.Cases.{onward-case}

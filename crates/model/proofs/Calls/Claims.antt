@@ -10,6 +10,7 @@ use Rattle.model.proofs.Calls.Refused.{lay-refused, propose-refused, st
 use Rattle.model.proofs.Calls.CallsKeep.{lay-sound, propose-keeps, step-keeps}
 use Rattle.model.proofs.Calls.Runs.{run-keeps}
 use Rattle.model.proofs.Calls.Rounds.{rounds-refused, rounds-keep}
+use Rattle.model.proofs.Calls.Proposals.{together-refused, together-keeps}
 use Rattle.model.proofs.Calls.Local as laws
 
 passed : (b : List ℕ) → Board b → Passes b
@@ -27,6 +28,7 @@ unaltered = record {
   stepping = step-refused;
   running = run-refused;
   playing = rounds-refused;
+  together = together-refused;
 }
 
 pub keep-sound : KeepSound
@@ -37,6 +39,7 @@ keep-sound = record {
   stepping = λ i b h. passed _ (step-keeps i b (board b h));
   running = λ is b h. passed _ (run-keeps is b (board b h));
   playing = λ k rs b h. passed _ (rounds-keep k rs b (board b h));
+  together = λ ps f b h. passed _ (together-keeps ps f b (board b h));
 }
 
 pub local : Local

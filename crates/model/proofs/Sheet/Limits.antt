@@ -8,11 +8,12 @@ use Rattle.model.specs.Show.{textFrom, text}
 use Rattle.model.specs.Forms.{Form, times, steps, repeated, expand, found, andThen, spaced, digit, digitsFrom}
 use Rattle.model.specs.Forms.{natural, numberIn, figureIn}
 use Rattle.model.specs.Forms.{behind, timesIn, itemIn, itemsIn, same, closing, boardRow, proposeRow, stepsRow}
-use Rattle.model.specs.Forms.{showRow, listIn, stationsIn, roundIn, roundsIn, roundsRow}
+use Rattle.model.specs.Forms.{showRow, listIn, stationsIn, roundIn, roundsIn, roundsRow, pairIn, pairsIn}
+use Rattle.model.specs.Forms.{singleIn, togetherIn}
 use Rattle.model.specs.Forms.{wordRows, rowIn, upToStop, firstWord, wordPlace, formIn, one, tooDeep, Reading}
 use Rattle.model.specs.Forms.{reads, orFour, readLine}
 use Rattle.model.specs.Sheet.{turnedDown, ranText, playReading, playLine}
-use Rattle.model.specs.Edges.{timesOne, deep, rows, Edges, StepsLimit}
+use Rattle.model.specs.Edges.{timesOne, deep, pair, rows, Edges, StepsLimit}
 use Rattle.model.proofs.Calls.Refusals.{Board, board-of}
 use Rattle.model.specs.Runs.{taken, passed, answers}
 use Rattle.model.proofs.Calls.Runs.{ran-both}
@@ -74,5 +75,6 @@ steps-limit laid m on = (λ e. steps-run laid m on (board-of (take laid m) none 
 pub edges : Edges
 unfolding Edges rows deep timesOne textFrom text unless found andThen spaced digit digitsFrom natural numberIn
     figureIn behind timesIn itemIn itemsIn listIn stationsIn roundIn roundsIn same wordRows boardRow proposeRow stepsRow
-    showRow roundsRow rowIn upToStop firstWord wordPlace closing formIn one tooDeep orFour readLine
+    showRow roundsRow rowIn upToStop firstWord wordPlace closing formIn one tooDeep orFour readLine pair pairIn pairsIn
+    singleIn togetherIn
 edges = refl

@@ -2,10 +2,10 @@
 -- else for them. Relies on the reading of numbers; both directions of the grammar rely on it.
 use Rattle.model.proofs.Kit.{_≡_, refl, sym, ap, _∙_, false, List, [], _∷_, _++_, append-assoc, ℕ, zero, suc}
 use Rattle.model.proofs.Kit.{Option, _+_, _≤_, _<_, lit<, eqb, eqb-true, length, drop, length-append, arith}
-use Rattle.model.specs.Bytes.{byte}
+use Rattle.model.specs.Bytes.{byte, Each}
 use Rattle.model.specs.Show.{textFrom, text, decimal}
 use Rattle.model.specs.Forms.{Read, found, spaced, digit, numberIn, listIn, stationsIn, roundIn, roundsIn}
-use Rattle.model.specs.Grammar.{writtenList, writtenRound, Each}
+use Rattle.model.specs.Grammar.{writtenList, writtenRound}
 use Rattle.model.proofs.Basics.Tests.{cond-case}
 use Rattle.model.proofs.Sheet.Readers.{Always, always-map, always-then, always-if}
 use Rattle.model.proofs.Sheet.Numbers.{Stops, then-found, digit-not, decimal-begins, number-decimal}

@@ -12,16 +12,19 @@ use Rattle.model.specs.Calls.{ranFrom, run, stations}
 use Rattle.model.specs.Calls as calls
 use Rattle.model.specs.Rounds.{roundsRefusal, roundsSteps, playedTo}
 use Rattle.model.specs.Rounds as byRound
+use Rattle.model.specs.Proposals.{Proposal, proposalsRefusal, oneByOne, proposeAll}
 use Rattle.model.specs.Forms.{propose, steps, Items, expand}
 use Rattle.model.specs.Sheet.{Played, refusedText, orRefused, laidText, proposedText, ranText, turnedDown}
 use Rattle.model.specs.Sheet.{playBoard, onBoard}
 use Rattle.model.specs.Sheet.{playForm}
 use Rattle.model.specs.AnyList.{Call, stepping, called, after}
+use Rattle.model.specs.SheetList.{singles}
 use Rattle.model.specs.Runs.{taken, passed, answers}
 use Rattle.model.proofs.Basics.Tests.{cond-case}
 use Rattle.model.proofs.Calls.Refusals.{Board, board-passes, unless-passes, unless-fails, refusal-case}
 use Rattle.model.proofs.Calls.Runs.{run-is}
 use Rattle.model.proofs.Calls.Rounds.{rounds-case}
+use Rattle.model.proofs.Calls.Proposals.{together-case}
 use Rattle.model.proofs.Bridge.RunCalls.{ran-calls}
 
 -- ---- runs, refused or not
@@ -90,6 +93,21 @@ rounds-leave k rs b =
       | some j ↦ []
     ]) b)
     (λ e. rw e (ran-calls (roundsSteps (stations b) rs) b)) (λ j e. rw e)
+
+-- ---- proposals together, refused or not
+
+singles-leave : (ps : List Proposal) (b : List ℕ) → oneByOne ps b ≡ after (singles ps) b
+unfolding oneByOne singles after called
+singles-leave [] b = refl
+singles-leave (p ∷ ps) b = singles-leave ps _
+
+-- the single calls of a line of pairs
+pub together-leaves : (ps : List Proposal) (b : List ℕ)
+    → proposeAll ps b .bytes ≡ after (elim (proposalsRefusal ps b) [ none ↦ singles ps | some j ↦ [] ]) b
+unfolding after
+together-leaves ps b =
+    together-case ps b (λ a. a .bytes ≡ after (elim (proposalsRefusal ps b) [ none ↦ singles ps | some j ↦ [] ]) b)
+    (λ e. rw e (singles-leave ps b)) (λ j e. rw e)
 
 -- ---- lines
 

@@ -1,14 +1,14 @@
 -- What a line prints of a call: no refusal that only library callers meet, if the board is sound.
 -- Relies on the refusals in checking order and on the reading of printed numbers; EachForm and Fits rely on it.
 use Rattle.model.proofs.Kit.{_≡_, refl, sym, ap, subst, _∙_, Bool, true, false, _&&_, _||_, not, inl, inr, _⊎_}
-use Rattle.model.proofs.Kit.{List, none, some, Option, ℕ, _-_, _≤_, eqb, leb, leb→le, T, length, drop}
+use Rattle.model.proofs.Kit.{List, [], _∷_, none, some, Option, ℕ, _-_, _≤_, eqb, leb, leb→le, T, length, drop}
 use Rattle.model.proofs.Kit.{replicate, arith}
 use lib.Seq.{take-at}
 use Rattle.model.specs.Bytes.{byte}
 use Rattle.model.specs.Figure.{Figure}
 use Rattle.model.specs.Listing.{Station, idle, active}
 use Rattle.model.specs.Calls.{After, Refusal, RunAnswer, ran, notRun, unless, boardRefusal, stationRefusal}
-use Rattle.model.specs.Calls.{stationAt}
+use Rattle.model.specs.Calls.{stationAt, proposalRefusal}
 use Rattle.model.specs.Calls.{notIdle, unlessRefused, step, ranFrom, run}
 use Rattle.model.specs.Calls as calls
 use Rattle.model.specs.Show.{text, textFrom, shownLine, shownAs}
@@ -16,7 +16,9 @@ use Rattle.model.specs.Show as shows
 use Rattle.model.specs.Forms.{Read, found, digit, natural}
 use Rattle.model.specs.Rounds.{roundsRefusal, playedTo}
 use Rattle.model.specs.Rounds as byRound
+use Rattle.model.specs.Proposals.{Proposal, orLater, firstFault, proposalsRefusal, proposeAll}
 use Rattle.model.specs.Sheet.{lastRefusal, refusedText, orRefused, proposedText, ranText, playedText, shownText}
+use Rattle.model.specs.Sheet.{togetherText}
 use Rattle.model.specs.SheetList.{LibraryOnly, NotMet}
 use Rattle.model.proofs.Basics.Tests.{and-l}
 use Rattle.model.proofs.Calls.Refusals.{Board, board-passes, call-case}
@@ -92,6 +94,11 @@ unfolding notIdle Always unmet lastRefusal
 idle-or-13 idle = tt
 idle-or-13 (active v s) = other 13 tt
 
+or-later : (r later : Refusal) → Always Other r → Always Other later → Always Other (orLater r later)
+unfolding Always
+or-later none later o h = h
+or-later (some k) later o h = o
+
 -- what is printed of a line that is shown is that line
 pub shown-text : (l : List ℕ) → shownText (shownAs none l) ≡ l
 unfolding shownText shownAs orRefused
@@ -106,12 +113,30 @@ module _ (b : List ℕ) (h : Board b) where
   board-first : (later : Refusal) → Always Other later → Always Other (boardRefusal b later)
   board-first later = subst (Always Other) (sym (board-passes b h later))
 
+  -- 12 and 13 of a proposal on its own, and of the first pair that has a fault
+  own-fault : (i : ℕ) → Always Other (proposalRefusal i b)
+  unfolding stationRefusal unmet lastRefusal
+  own-fault i = always-unless _ 12 _ (λ _. other 12 tt) (λ _. idle-or-13 (stationAt i b))
+
   pub propose-says : (i : ℕ) (v : Figure) → NotMet (orRefused (calls.propose i v b .answer) (proposedText i v))
-  unfolding calls.propose proposedText text textFrom stationRefusal unmet lastRefusal
+  unfolding calls.propose proposedText text textFrom
   propose-says i v =
-      or-refused-prints (calls.propose i v b .answer) (proposedText i v)
-      (answered _ b _ (board-first _ (always-unless _ 12 _ (λ _. other 12 tt) (λ _. idle-or-13 (stationAt i b)))))
+      or-refused-prints (calls.propose i v b .answer) (proposedText i v) (answered _ b _ (board-first _ (own-fault i)))
       (answer-prints (proposedText i v) (λ e. omega arith))
+
+  first-fault : (ps : List Proposal) → Always Other (firstFault ps b)
+  unfolding firstFault Always
+  first-fault [] = tt
+  first-fault (p ∷ ps) =
+      or-later (proposalRefusal (p .station) b) (firstFault ps b) (own-fault (p .station)) (first-fault ps)
+
+  pub together-says : (ps : List Proposal)
+      → NotMet (orRefused (proposeAll ps b .answer) (togetherText (length ps)))
+  unfolding proposeAll proposalsRefusal togetherText text textFrom unmet lastRefusal
+  together-says ps =
+      or-refused-prints (proposeAll ps b .answer) (togetherText (length ps))
+      (answered _ b _ (board-first _ (always-unless _ 20 _ (λ _. other 20 tt) (λ _. first-fault ps))))
+      (answer-prints (togetherText (length ps)) (λ e. omega arith))
 
   pub ran-says : (is : List ℕ) → NotMet (ranText (run is b .answer))
   unfolding run unmet lastRefusal

@@ -3,17 +3,18 @@
 use Rattle.model.proofs.Kit.{_≡_, refl, ap, _∙_, false, List, [], _∷_, _++_, append-assoc, some, ℕ, zero, suc}
 use Rattle.model.proofs.Kit.{_+_, _≤_, _<_, lit<, length, length-append, arith}
 use Rattle.model.specs.Bytes.{byte}
-use Rattle.model.specs.Show.{textFrom, text, decimalIn, decimal}
+use Rattle.model.specs.Show.{textFrom, text, decimalIn, decimal, signed}
 use Rattle.model.specs.Forms.{Item, station, times, Items, done, next, board, propose, steps, show, found, spaced}
-use Rattle.model.specs.Forms.{digit, rounds, roundsRow}
+use Rattle.model.specs.Forms.{digit, rounds, roundsRow, proposals, singleIn}
 use Rattle.model.specs.Forms.{behind, timesIn, itemIn, itemsIn, same, closing, boardRow, proposeRow, stepsRow}
 use Rattle.model.specs.Forms.{showRow}
 use Rattle.model.specs.Forms.{wordRows, rowIn, upToStop, firstWord, wordPlace, formIn}
 use Rattle.model.specs.Grammar.{writtenItem, writtenItems, written, AtLeastOne, ItemInRange, ItemsInRange}
-use Rattle.model.specs.Grammar.{writtenRound, InRange, ReadsWritten}
+use Rattle.model.specs.Grammar.{writtenRound, writtenPair, writtenList, InRange, ReadsWritten}
 use Rattle.model.proofs.Sheet.Numbers.{Stops, then-found, digit-not, decimal-begins, number-decimal}
 use Rattle.model.proofs.Sheet.Numbers.{figure-signed}
 use Rattle.model.proofs.Sheet.Lists.{station-read, bracket-stops, space-stops, list-stops, rounds-read}
+use Rattle.model.proofs.Sheet.Pairs.{together-read}
 
 -- ---- what is read of a written form
 
@@ -115,13 +116,16 @@ steps-read is h = then-found _ (items-read is _ (omega (arith, length-append (wr
 pub reads-written : ReadsWritten
 unfolding ReadsWritten written InRange text textFrom formIn firstWord wordPlace upToStop rowIn wordRows boardRow
     proposeRow
-    stepsRow showRow roundsRow same spaced closing writtenItems
+    stepsRow showRow roundsRow same spaced closing writtenItems writtenList writtenPair singleIn
 reads-written (board n K) h =
     then-found _ (station-read n (h .0) _ (space-stops _)) ∙ then-found _ (station-read K (h .1) _ (bracket-stops []))
 reads-written (propose i v) h =
-    then-found _ (station-read i (h .0) _ (space-stops _)) ∙ then-found _ (figure-signed v (h .1) _ (bracket-stops []))
+    rw (digit-not (byte (decimal i ++ (32 ∷ (signed v ++ (41 ∷ [])))) 0) 40 (decimal-begins i _) not-bracket)
+    (then-found _ (station-read i (h .0) _ (space-stops _)) ∙ then-found _ (figure-signed v (h .1) _ (bracket-stops [])))
 reads-written (steps done) h = steps-read done h
 reads-written (steps (next i is)) h = steps-read (next i is) h
 reads-written show h = refl
 reads-written (rounds k rs) h =
     then-found _ (station-read k (h .0) _ (list-stops writtenRound rs [])) ∙ then-found _ (rounds-read rs (h .1) [])
+reads-written (proposals []) h = absurd (omega (arith, h .0))
+reads-written (proposals (p ∷ ps)) h = together-read (p ∷ ps) (h .1)

@@ -3,22 +3,23 @@
 use Rattle.model.proofs.Kit.{_≡_, refl, sym, ap, subst, _∙_, cond, _||_, not, List, [], _∷_, _++_, none, some}
 use Rattle.model.proofs.Kit.{Option, ℕ, zero, suc, _+_, _≤_, _<_, eqb-true, eqb, leb, lit<, T, eqb→eq, length}
 use Rattle.model.proofs.Kit.{drop, w32, SFits, add-one, arith}
-use Rattle.model.specs.Bytes.{byte}
+use Rattle.model.specs.Bytes.{byte, Each}
 use Rattle.model.specs.Calls.{Refusal, unless}
 use Rattle.model.specs.Show.{textFrom, text, decimal, signed}
 use Rattle.model.specs.Forms.{times, Items, done, next, Form, board, propose, steps, show, Read, found, andThen}
 use Rattle.model.specs.Forms.{spaced}
 use Rattle.model.specs.Forms.{numberIn, figureIn, behind, timesIn, itemIn, itemsIn}
 use Rattle.model.specs.Forms.{same, closing, WordRow, boardRow, proposeRow, stepsRow, showRow, wordRows, rowIn}
-use Rattle.model.specs.Forms.{upToStop, rounds, roundsIn, roundsRow}
+use Rattle.model.specs.Forms.{upToStop, rounds, roundsIn, roundsRow, proposals, pairsIn, singleIn, togetherIn}
 use Rattle.model.specs.Forms.{firstWord, wordPlace, formIn, tooDeep, Reading, reads, unread, orFour, readLine}
 use Rattle.model.specs.Grammar.{WrittenReads}
 use Rattle.model.proofs.Basics.Tests.{true-T, and-l, and-r, cond-case}
 use Rattle.model.proofs.Sheet.Readers.{Always, always-map, always-then, always-if}
 use Rattle.model.proofs.Sheet.NumbersBack.{Stood, in-front, spaced-stood, number-stood, figure-stood}
 use Rattle.model.specs.Grammar.{writtenItem, writtenItems, written, AtLeastOne, ItemInRange, ItemsInRange}
-use Rattle.model.specs.Grammar.{InRange, writtenList, writtenRound, Each}
+use Rattle.model.specs.Grammar.{InRange, writtenList, writtenRound, writtenPair, PairInRange}
 use Rattle.model.proofs.Sheet.Lists.{Stations, ListStood, station-stood, rounds-stood}
+use Rattle.model.proofs.Sheet.Pairs.{pairs-stood, one-at-least}
 use Rattle.model.proofs.Sheet.Written.{times-regrouped, next-regrouped}
 
 -- ---- items
@@ -190,13 +191,33 @@ board-stood = (
       (number-stood 0 99 (lit< tt)) (λ n K. refl) (λ n K h l. (h .1, l .1)),
 )
 
+Proposes : List ℕ → Form → Type 0
+Proposes k = FormStood (40 ∷ (text "propose" ++ k))
+
+single-stood : (k : List ℕ) → Always (Proposes k) (singleIn k)
+unfolding Proposes singleIn written InRange Station text textFrom
+single-stood =
+    two-stood decimal Station signed (SFits w32) (numberIn 0 99) figureIn (text "propose") propose
+    (number-stood 0 99 (lit< tt)) figure-stood (λ i v. refl) (λ i v h l. (h .1, l))
+
+together-stood : (k : List ℕ) → byte k 1 ≡ 40 → Always (Proposes k) (togetherIn k)
+unfolding Proposes togetherIn FormStood ListStood written InRange text textFrom Always
+together-stood k b =
+    always-then (ListStood writtenPair PairInRange k) (Proposes k) (pairsIn k) _ (pairs-stood k)
+    (λ r h. always-if (Proposes k) (same (r .rest) []) (some (proposals (r .value)))
+    (λ e. let is : k ≡ writtenList writtenPair (r .value) ++ (41 ∷ [])
+    = h .0 ∙ ap (λ (x : List ℕ). writtenList writtenPair (r .value) ++ (41 ∷ x)) (same-text (r .rest) [] (true-T _ e)) in
+    (
+      ap (λ (x : List ℕ). 40 ∷ (text "propose" ++ x)) is,
+      (one-at-least (r .value) (ap (λ (x : List ℕ). byte x 1) (sym is) ∙ b), h .1),
+    )))
+
 propose-stood : RowStood proposeRow
-unfolding RowStood proposeRow written InRange Station text textFrom
+unfolding RowStood proposeRow Proposes text textFrom
 propose-stood = (
   omega arith,
-  two-stood decimal Station signed (SFits w32) (numberIn 0 99) figureIn (text "propose") propose
-      (number-stood 0 99 (lit< tt))
-      figure-stood (λ i v. refl) (λ i v h l. (h .1, l)),
+  λ k. cond-case (Always (Proposes k)) (eqb (byte k 1) 40) (togetherIn k) (singleIn k)
+      (λ e. together-stood k (eqb-true (byte k 1) 40 e)) (λ e. single-stood k),
 )
 
 steps-stood : RowStood stepsRow

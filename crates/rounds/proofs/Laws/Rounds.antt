@@ -6,7 +6,8 @@ use Rattle.model.specs.declared.Verdict.{Verdict}
 use Rattle.model.specs.declared.Verdict.the-variants as verdicts
 use Rattle.model.specs.declared.RoundsVerdict.the-variants.{Played, Refused}
 use Rattle.model.specs.Calls.{After, stations, boardRefusal, stepOn, step}
-use Rattle.model.specs.Rounds.{RoundsAnswer, played, names, inTurn, roundSteps, roundsSteps, decidedOn}
+use Rattle.model.specs.Bytes.{names}
+use Rattle.model.specs.Rounds.{RoundsAnswer, played, inTurn, roundSteps, roundsSteps, decidedOn}
 use Rattle.model.specs.Rounds.{playedTo, roundsRefusal, rounds}
 use Rattle.model.specs.Runs.{after}
 use Rattle.model.specs.Told.{verdict, roundsTold}

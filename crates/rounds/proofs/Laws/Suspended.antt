@@ -5,7 +5,7 @@ use Rattle.model.proofs.Kit.{_≤_, _<_, eqb, eqb-true, eqb-false, ne-eqb, leng
 use Rattle.model.proofs.Kit.{take-all, add-one, arith}
 use lib.ListN.{getD-replicate}
 use lib.Seq.{take-suc, getD-set-same, getD-set-other}
-use Rattle.model.specs.Rounds.{names}
+use Rattle.model.specs.Bytes.{names}
 use Rattle.model.proofs.Basics.Tests.{by-test}
 use Rattle.rounds.specs.Suspended.{suspended, Suspends, Adds}
 
