@@ -1,5 +1,4 @@
 -- Laws over plain variables, one subject a file: what each return of a call has to show.
 pub mod Laying
-pub mod Proposing
 pub mod Showing
 pub mod Telling

@@ -26,7 +26,7 @@ fn low(x: u32) -> u8
 }
 
 // The number that 32 bits stand for. No cast here changes a number, and the two branches compile to no instruction.
-fn signed(bits: u32) -> i32
+pub fn signed(bits: u32) -> i32
     ensures { λ r. ⌜ r ≡ toZ w32 bits ⌝ }
 {
     if bits < 2147483648 {

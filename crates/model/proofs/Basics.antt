@@ -4,5 +4,6 @@ pub mod Loops
 pub mod Numbers
 pub mod Parts
 pub mod Splices
+pub mod Names
 pub mod Ended
 pub mod Decimals

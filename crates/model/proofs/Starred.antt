@@ -25,7 +25,8 @@ use Rattle.model.specs.Calls.{putRegister, notIdle, propose, notGoing, a
 use Rattle.model.specs.Calls.{run}
 use Rattle.model.specs.Rounds.{inTurn, roundSteps, roundsSteps, settled, allSettled, rising, roundKnown}
 use Rattle.model.specs.Rounds.{roundsKnown, roundsRefusal, standsDecided, decidedOn, playedTo, rounds}
-use Rattle.model.specs.Proposals.{named, eachOnce, firstFault, proposalsRefusal, oneByOne, proposeAll}
+use Rattle.model.specs.Proposals.{named, eachOnce, firstFault, pairsRefusal, proposalsRefusal, oneByOne}
+use Rattle.model.specs.Proposals.{proposeAll}
 use Rattle.model.specs.Standing.{standingOf}
 use Rattle.model.specs.Show.{textFrom, text, decimalIn, decimal, signed, worded, standingText, status, statuses}
 use Rattle.model.specs.Show.{shownLine, shownAs, show}
@@ -58,5 +59,5 @@ unfolding Starred Holds rise rows sheet asLines layIn number digits part splice 
     playForm playReading playLine onFirst endedBy printed playSheet outcome ranges
     count listIn stationsIn roundIn roundsIn names inTurn roundSteps roundsSteps settled allSettled rising roundKnown
     roundsKnown roundsRefusal standsDecided decidedOn playedTo rounds playedText pairIn pairsIn singleIn togetherIn named
-    eachOnce firstFault proposalsRefusal oneByOne proposeAll togetherText
+    eachOnce firstFault pairsRefusal proposalsRefusal oneByOne proposeAll togetherText
 starred = (refl, (refl, (refl, (refl, (refl, (refl, (refl, (refl, (refl, (refl, (refl, (refl, (refl, tt)))))))))))))

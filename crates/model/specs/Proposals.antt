@@ -37,9 +37,13 @@ unfoldable pub firstFault : List Proposal → List ℕ → Refusal
 firstFault [] b = none
 firstFault (p ∷ ps) b = orLater (proposalRefusal (p .station) b) (firstFault ps b)
 
--- the board's own refusals, and "before 12: 20, a station is named twice", whether or not the board has it
+-- what a sound board refuses of pairs: "before 12: 20, a station is named twice", whether or not the board has it
+unfoldable pub pairsRefusal : List Proposal → List ℕ → Refusal
+pairsRefusal ps b = unless (eachOnce (named ps)) 20 (firstFault ps b)
+
+-- and before that the board's own refusals
 unfoldable pub proposalsRefusal : List Proposal → List ℕ → Refusal
-proposalsRefusal ps b = boardRefusal b (unless (eachOnce (named ps)) 20 (firstFault ps b))
+proposalsRefusal ps b = boardRefusal b (pairsRefusal ps b)
 
 -- ---- the call
 

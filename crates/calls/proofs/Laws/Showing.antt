@@ -22,7 +22,7 @@ use Rattle.shown.proofs.Rooms.{holds-room}
 use Rattle.shown.proofs.Bounds.{status-bound, good-island, statuses-more, statuses-bound, line-bound, shown-is}
 use Rattle.calls.specs.Showing.{openTo, Opened}
 use Rattle.model.proofs.Board.Places.{record-inside}
-use Rattle.stepping.proofs.Laws.Checking.{turned}
+use Rattle.soundness.proofs.Laws.Checked.{turned}
 use Rattle.soundness.proofs.Laws.Placing.{head}
 
 module _ (b : List ℕ) (sound : boardRefusal b none ≡ none) where

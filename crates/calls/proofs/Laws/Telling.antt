@@ -1,5 +1,5 @@
 -- Telling how a station stands, with its steps: the answer at each return.
--- Relies on the model's refusals, on Proposing's way past the board's own and on the place of a station; the proofs of
+-- Relies on the model's refusals, on the way past the board's own and on the place of a station; the proofs of
 -- `standing` rely on it.
 use Rattle.model.proofs.Kit.{_≡_, sym, ap, _∙_, List, none, some, ℕ}
 use Rattle.model.specs.declared.Record.{Record}
@@ -17,8 +17,7 @@ use Rattle.soundness.specs.declared.place.Place.{Place}
 use Rattle.soundness.specs.declared.place.Place.the-variants as places
 use Rattle.soundness.specs.Placed.{Placed}
 use Rattle.soundness.proofs.Laws.Placing.{at-place, not-placed, own-value, own-steps}
-use Rattle.stepping.proofs.Laws.Checking.{turned}
-use Rattle.calls.proofs.Laws.Proposing.{past-board}
+use Rattle.soundness.proofs.Laws.Checked.{turned, past-board}
 
 module _ (i : ℕ) (b : List ℕ) where
   refuses : (k : ℕ) → boardRefusal b (stationRefusal i b none) ≡ some k → standingAnswered (Refused k) ≡ standing i b

@@ -1,5 +1,5 @@
 -- `run_line` meets its contract: 6, then the board's own refusals, then the items are run on a sound board.
-use Rattle.stepping.proofs.Laws.Checking.{passed}
+use Rattle.soundness.proofs.Laws.Checked.{passed}
 use Rattle.line_run.proofs.Laws.Counting.{line-too-many, line-reads, taken-below, line-refused, line-ran}
 use Rattle.model.proofs.Kit.{needs, arith}
 use Rattle.line_run.proofs.run_line.Statement.{statement}

@@ -49,11 +49,14 @@ number-lt [] h = lit< tt
 number-lt (b ∷ bs) h = rw pow-suc (omega (arith, number-lt bs (h .1), h .0))
 
 -- Whatever bits are read, the figure is a 32-bit one.
+pub signed-fits : (x : ℕ) → SFits w32 (toZ w32 x)
+signed-fits x =
+    by-test (ltb x (2 ^ 31)) (λ e. rw e (record { sfits = ltb-true x (2 ^ 31) e }))
+    (λ e. rw e (record { sfits = omega (arith, ltb-false x (2 ^ 31) e) }))
+
 pub figure-fits : (b : List ℕ) → SFits w32 (figure b)
 unfolding figure
-figure-fits b =
-    by-test (ltb (number b) (2 ^ 31)) (λ e. rw e (record { sfits = ltb-true (number b) (2 ^ 31) e }))
-    (λ e. rw e (record { sfits = omega (arith, ltb-false (number b) (2 ^ 31) e) }))
+figure-fits b = signed-fits (number b)
 
 -- "figures in two's complement": each way round
 pub figure-bytes : (v : Figure) → SFits w32 v → figure (figureBytes v) ≡ v

@@ -9,8 +9,8 @@ use Rattle.model.specs.Listing.{Station, idle, active, proposed}
 use Rattle.model.specs.Layout.{readRecord, recordValue, recordOf, stationOf}
 use Rattle.model.specs.Calls.{After, Refusal, unless, unlessRefused, stations, islands, boardRefusal, stationAt}
 use Rattle.model.specs.Calls.{putProposal, notIdle, proposalRefusal, propose}
-use Rattle.model.specs.Proposals.{Proposal, AllFit, named, eachOnce, orLater, firstFault, proposalsRefusal}
-use Rattle.model.specs.Proposals.{oneByOne, proposeAll}
+use Rattle.model.specs.Proposals.{Proposal, AllFit, named, eachOnce, orLater, firstFault, pairsRefusal}
+use Rattle.model.specs.Proposals.{proposalsRefusal, oneByOne, proposeAll}
 use Rattle.model.specs.AnyOrder.{AllAccepted}
 use Rattle.model.proofs.Basics.Tests.{and-l, and-r, and-i, T-true, T-false, by-test, clash}
 use Rattle.model.proofs.Board.Codec.{Fits, station-bytes}
@@ -122,14 +122,14 @@ pub record Passed (ps : List Proposal) (b : List ℕ) : Type 0 where
   pub free : AllFree b ps
 
 pub passed-of : (ps : List Proposal) (b : List ℕ) → proposalsRefusal ps b ≡ none → Passed ps b
-unfolding proposalsRefusal
+unfolding proposalsRefusal pairsRefusal
 passed-of ps b e =
     let s = board-of b _ e in
     let t = unless-none (eachOnce (named ps)) 20 (firstFault ps b) (s .1) in
     record { board = s .0; once = t .0; free = faults-none ps b (t .1) }
 
 pub of-passed : (ps : List Proposal) (b : List ℕ) → Passed ps b → proposalsRefusal ps b ≡ none
-unfolding proposalsRefusal
+unfolding proposalsRefusal pairsRefusal
 of-passed ps b p =
     board-passes b (p .board) _ ∙ unless-passes (eachOnce (named ps)) 20 (firstFault ps b) (p .once)
     ∙ none-faults ps b (p .free)

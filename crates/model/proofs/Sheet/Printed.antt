@@ -16,7 +16,7 @@ use Rattle.model.specs.Show as shows
 use Rattle.model.specs.Forms.{Read, found, digit, natural}
 use Rattle.model.specs.Rounds.{roundsRefusal, playedTo}
 use Rattle.model.specs.Rounds as byRound
-use Rattle.model.specs.Proposals.{Proposal, orLater, firstFault, proposalsRefusal, proposeAll}
+use Rattle.model.specs.Proposals.{Proposal, orLater, firstFault, pairsRefusal, proposalsRefusal, proposeAll}
 use Rattle.model.specs.Sheet.{lastRefusal, refusedText, orRefused, proposedText, ranText, playedText, shownText}
 use Rattle.model.specs.Sheet.{togetherText}
 use Rattle.model.specs.SheetList.{LibraryOnly, NotMet}
@@ -132,7 +132,7 @@ module _ (b : List ℕ) (h : Board b) where
 
   pub together-says : (ps : List Proposal)
       → NotMet (orRefused (proposeAll ps b .answer) (togetherText (length ps)))
-  unfolding proposeAll proposalsRefusal togetherText text textFrom unmet lastRefusal
+  unfolding proposeAll proposalsRefusal pairsRefusal togetherText text textFrom unmet lastRefusal
   together-says ps =
       or-refused-prints (proposeAll ps b .answer) (togetherText (length ps))
       (answered _ b _ (board-first _ (always-unless _ 20 _ (λ _. other 20 tt) (λ _. first-fault ps))))

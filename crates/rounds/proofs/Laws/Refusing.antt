@@ -12,7 +12,7 @@ use Rattle.halts.specs.Needs as halts
 use Rattle.halts.proofs.Laws.Known.{rounds-known}
 use Rattle.record_soundness.proofs.Laws.Chains.{no, yes}
 use Rattle.soundness.proofs.Laws.Placing.{n-high}
-use Rattle.stepping.proofs.Laws.Checking.{turned}
+use Rattle.soundness.proofs.Laws.Checked.{turned}
 use Rattle.rounds.specs.Asked.{Refuses}
 
 module _ (needs : ℕ) (b : List ℕ) where

@@ -7,19 +7,8 @@ use lib.ListN.{getD-replicate}
 use lib.Seq.{take-suc, getD-set-same, getD-set-other}
 use Rattle.model.specs.Bytes.{names}
 use Rattle.model.proofs.Basics.Tests.{by-test}
+use Rattle.model.proofs.Basics.Names.{or-none, or-any, names-more}
 use Rattle.rounds.specs.Suspended.{suspended, Suspends, Adds}
-
-or-none : (a : Bool) → a || false ≡ a
-or-none true = refl
-or-none false = refl
-
-or-any : (a : Bool) → a || true ≡ true
-or-any true = refl
-or-any false = refl
-
-or-assoc : (a b c : Bool) → a || (b || c) ≡ (a || b) || c
-or-assoc true b c = refl
-or-assoc false b c = refl
 
 -- ---- one more
 
@@ -52,12 +41,6 @@ module _ (halted : List Bool) (j : ℕ) (size : length halted ≡ 16) where
     added = record { size = simp length-set size; holds = λ i l h. entry i l }
 
 -- ---- as many as a round names
-
-names-more : (i : ℕ) (r : List ℕ) (j : ℕ) → names i (r ++ (j ∷ [])) ≡ names i r || eqb i j
-unfolding names
-names-more i [] j = or-none (eqb i j)
-names-more i (k ∷ ks) j =
-    ap (λ (t : Bool). eqb i k || t) (names-more i ks j) ∙ or-assoc (eqb i k) (names i ks) (eqb i j)
 
 -- the empty set is that of a round that names nobody
 pub suspends-none : Suspends (replicate 16 false) []

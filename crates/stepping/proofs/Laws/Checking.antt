@@ -1,26 +1,15 @@
--- A call that tests the board first: the board's own refusals, and a board that passed.
--- Relies on the model's calls; the proofs of the public calls rely on it.
-use Rattle.model.proofs.Kit.{_≡_, sym, ap, _∙_, List, none, some, ℕ}
+-- A single step that tests the board first: the board's own refusals, and a board that passed.
+-- Relies on the model's calls and on what the test of a board answers; the proof of the public call relies on it.
+use Rattle.model.proofs.Kit.{_≡_, sym, ap, _∙_, List, none, ℕ}
 use Rattle.model.specs.declared.Verdict.{Verdict}
-use Rattle.model.specs.declared.Verdict.the-variants.{Accepted, Refused}
+use Rattle.model.specs.declared.Verdict.the-variants.{Refused}
 use Rattle.model.specs.declared.StepAnswer.{StepAnswer}
 use Rattle.model.specs.declared.StepAnswer.the-variants as answers
 use Rattle.model.specs.Listing.{refused}
 use Rattle.model.specs.Calls.{Refusal, boardRefusal, unlessRefused, stepOn, step}
 use Rattle.model.specs.Told.{told, verdict}
+use Rattle.soundness.proofs.Laws.Checked.{turned}
 use Rattle.stepping.specs.Stepped.{StepsOn}
-
--- what the test of a board answered, as the code then finds it
-pub passed : (b : List ℕ) (v : Verdict) → v ≡ Accepted → verdict v ≡ boardRefusal b none → boardRefusal b none ≡ none
-unfolding verdict
-passed b v e h = sym h ∙ ap verdict e
-
-pub turned : (b : List ℕ) (v : Verdict) (k : ℕ) → v ≡ Refused k → verdict v ≡ boardRefusal b none
-    → boardRefusal b none ≡ some k
-unfolding verdict
-turned b v k e h = sym h ∙ ap verdict e
-
--- ---- a single step
 
 pub step-turned : (i : ℕ) (b : List ℕ) (v : Verdict) (k : ℕ) → v ≡ Refused k → verdict v ≡ boardRefusal b none
     → (told (answers.Refused k) ≡ step i b .answer) × (b ≡ step i b .bytes)

@@ -14,7 +14,7 @@ use Rattle.model.proofs.Calls.CallsKeep.{stepOn-keeps}
 use Rattle.model.specs.Runs.{taken, passed, answers, after}
 use Rattle.model.proofs.Calls.Runs.{taken-append, answers-append, after-append, ran-is, ran-both, run-on}
 use Rattle.stepping.specs.Stepped.{RunsOn}
-use Rattle.stepping.proofs.Laws.Checking.{turned}
+use Rattle.soundness.proofs.Laws.Checked.{turned}
 
 -- after the first i stations: the board d and the count k
 pub record After-i (is b : List ℕ) (i : ℕ) (d : List ℕ) (k : ℕ) : Type 0 where

@@ -1,6 +1,6 @@
 -- `showing::show` meets its contract: the board's own refusals come first, then the line of a sound board.
 use Rattle.model.proofs.Kit.{_∙_, needs}
-use Rattle.stepping.proofs.Laws.Checking.{passed}
+use Rattle.soundness.proofs.Laws.Checked.{passed}
 use Rattle.calls.proofs.Laws.Showing.{shows, refused-shown}
 use Rattle.calls.proofs.showing.show.Statement.{statement}
 use Rattle.calls.proofs.showing.show.Tie as tie

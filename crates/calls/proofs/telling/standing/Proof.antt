@@ -1,6 +1,6 @@
 -- `telling::standing` meets its contract: the board's own refusals come first, then the station of a sound board.
 use Rattle.model.proofs.Kit.{needs}
-use Rattle.stepping.proofs.Laws.Checking.{passed}
+use Rattle.soundness.proofs.Laws.Checked.{passed}
 use Rattle.calls.proofs.Laws.Telling.{board-refuses}
 use Rattle.calls.proofs.telling.standing.Statement.{statement}
 use Rattle.calls.proofs.telling.standing.Tie as tie

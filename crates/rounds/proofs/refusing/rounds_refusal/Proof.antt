@@ -1,6 +1,6 @@
 -- `refusing::rounds_refusal`: the board's own refusals come first.
 use Rattle.model.proofs.Kit.{needs}
-use Rattle.stepping.proofs.Laws.Checking.{passed}
+use Rattle.soundness.proofs.Laws.Checked.{passed}
 use Rattle.rounds.proofs.Laws.Refusing.{board-refused}
 use Rattle.rounds.proofs.refusing.rounds_refusal.Statement.{statement}
 use Rattle.rounds.proofs.refusing.rounds_refusal.Tie as tie

@@ -1,6 +1,6 @@
 -- `running::run` meets its contract: 6, then the board's own refusals, then the run on a sound board.
 use Rattle.model.proofs.Kit.{refl, needs, arith}
-use Rattle.stepping.proofs.Laws.Checking.{passed}
+use Rattle.soundness.proofs.Laws.Checked.{passed}
 use Rattle.stepping.proofs.Laws.Running.{too-many, board-refuses, runs-below, ran-through}
 use Rattle.stepping.proofs.running.run.Statement.{statement}
 use Rattle.stepping.proofs.running.run.Tie as tie

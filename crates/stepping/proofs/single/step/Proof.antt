@@ -1,6 +1,7 @@
 -- `single::step` meets its contract: the board's own refusals come first, then the step on a sound board.
 use Rattle.model.proofs.Kit.{needs}
-use Rattle.stepping.proofs.Laws.Checking.{passed, step-turned, step-passed}
+use Rattle.soundness.proofs.Laws.Checked.{passed}
+use Rattle.stepping.proofs.Laws.Checking.{step-turned, step-passed}
 use Rattle.stepping.proofs.single.step.Statement.{statement}
 use Rattle.stepping.proofs.single.step.Tie as tie
 

@@ -1,11 +1,11 @@
--- `proposing::beginning` meets its contract: the fields are those of a station that has just proposed.
+-- `single::beginning` meets its contract: the fields are those of a station that has just proposed.
 use Rattle.model.proofs.Kit.{ap, toZ-ofZ}
 use Rattle.model.specs.Figure.{Figure}
 use Rattle.model.specs.Listing.{proposed}
 use Rattle.model.specs.Layout.{writePhase, flagByte, seenNumber, bestIsland, bestFigure, fields, recordFields}
 use Rattle.model.specs.Layout.{changed, withSteps}
-use Rattle.calls.proofs.proposing.beginning.Statement.{statement}
-use Rattle.calls.proofs.proposing.beginning.Tie as tie
+use Rattle.proposing.proofs.single.beginning.Statement.{statement}
+use Rattle.proposing.proofs.single.beginning.Tie as tie
 
 returns : tie.Need-returns
 unfolding recordFields fields changed proposed writePhase flagByte seenNumber bestIsland bestFigure

@@ -1,0 +1,2 @@
+-- Laws that the proofs of proposals share.
+pub mod Laws
