@@ -5,5 +5,6 @@ pub mod Numbers
 pub mod Spaced
 pub mod Given
 pub mod Known
+pub mod KnownFigures
 pub mod Words
 pub mod Behind

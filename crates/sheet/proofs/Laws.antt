@@ -5,5 +5,6 @@ pub mod Depth
 pub mod Lists
 pub mod Rounds
 pub mod Forms
+pub mod Pairs
 pub mod WholeLine
 pub mod Readings

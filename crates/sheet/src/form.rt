@@ -1,13 +1,17 @@
 // A line to its form, or to refusal 2, 3 or 4.
-// Relies on the lexer's words and numbers, on items and on rounds; the player of a line relies on it.
+// Relies on the lexer's words and numbers, on items, rounds and pairs; the player of a line relies on it.
 ghost use mathlib.Core.Path.{_≡_};
 ghost use Prim.Native.Nat.{_≤_};
 ghost use lib.ListN.{length, drop};
-ghost use Rattle.model.specs.Forms.{boardRow, proposeRow, stepsRow, showRow, roundsRow, wordPlace, formIn, tooDeep, same, orFour, readLine};
+ghost use lib.Dec.{eqb};
+ghost use Rattle.model.specs.Bytes.{byte};
+ghost use Rattle.model.specs.Forms.{boardRow, proposeRow, stepsRow, showRow, roundsRow, singleIn, togetherIn};
+ghost use Rattle.model.specs.Forms.{wordPlace, formIn, tooDeep, same, orFour, readLine};
 ghost use Rattle.model.specs.Show.{text};
 ghost use Rattle.sheet.specs.LineForms.{lineForm};
 use crate::item::Counted;
 use crate::item::items;
+use crate::pairs::pair_list;
 use crate::rounds::Listed;
 use crate::rounds::round_list;
 use lexer::number::FoundFigure;
@@ -21,13 +25,15 @@ use lexer::word::form_named;
 
 // A form with its numbers. The items of `steps` stay in the line, from the place `at` on; `count` is how many steps
 // they stand for, 65,537 for any number above 65,536. So do the number and the rounds of `rounds`: there are `rounds`
-// of them, and a board must have `needs` stations for them, 255 for rounds that no board takes.
+// of them, and a board must have `needs` stations for them, 255 for rounds that no board takes. So do the `pairs` pairs of
+// `propose`.
 pub enum LineForm {
     Board { n: u8, k: u8 },
     Propose { station: u8, figure: i32 },
     Steps { at: usize, count: u32 },
     Show,
     Rounds { at: usize, rounds: usize, needs: u8 },
+    Proposals { at: usize, pairs: usize },
     Refused { number: u8 },
 }
 
@@ -88,8 +94,8 @@ fn board_form(line: &[u8], at: usize) -> LineForm
     LineForm::Refused { number: 4 }
 }
 
-fn propose_form(line: &[u8], at: usize) -> LineForm
-    ensures { λ r. ⌜ r ≡ lineForm at (orFour (proposeRow .reader (drop at (now (line .entry))))) ⌝ }
+fn single_form(line: &[u8], at: usize) -> LineForm
+    ensures { λ r. ⌜ r ≡ lineForm at (orFour (singleIn (drop at (now (line .entry))))) ⌝ }
 {
     let FoundNumber::At {
         value: station,
@@ -112,6 +118,45 @@ fn propose_form(line: &[u8], at: usize) -> LineForm
         };
     }
     LineForm::Refused { number: 4 }
+}
+
+fn together_form(line: &[u8], at: usize) -> LineForm
+    ensures { λ r. ⌜ r ≡ lineForm at (orFour (togetherIn (drop at (now (line .entry))))) ⌝ }
+{
+    let Listed::At {
+        count,
+        needs: _,
+        next,
+    } = pair_list(line, at)
+    else {
+        return LineForm::Refused { number: 4 };
+    };
+    if next < line.len() {
+        return LineForm::Refused { number: 4 };
+    }
+    LineForm::Proposals { at, pairs: count }
+}
+
+// Whether a bracket stands behind the byte at `at`, as it does where pairs follow the word.
+fn opens_pair(line: &[u8], at: usize) -> bool
+    ensures { λ r. ⌜ r ≡ eqb (byte (drop at (now (line .entry))) 1) 40 ⌝ }
+{
+    if line.len() <= at {
+        return false;
+    }
+    if line.len() <= at + 1 {
+        return false;
+    }
+    line[at + 1] == b'('
+}
+
+fn propose_form(line: &[u8], at: usize) -> LineForm
+    ensures { λ r. ⌜ r ≡ lineForm at (orFour (proposeRow .reader (drop at (now (line .entry))))) ⌝ }
+{
+    if opens_pair(line, at) {
+        return together_form(line, at);
+    }
+    single_form(line, at)
 }
 
 fn steps_form(line: &[u8], at: usize) -> LineForm

@@ -3,4 +3,5 @@
 // line rely on it. Nothing here knows the board.
 pub mod form;
 pub mod item;
+pub mod pairs;
 pub mod rounds;

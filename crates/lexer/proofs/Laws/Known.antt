@@ -1,7 +1,8 @@
 -- A number that is known to stand at a place: its first byte, and that its digits stay in their range without a test.
 -- Relies on Given, Numbers and Spaced; the proof of src/known.rt and the run of items above rely on it.
 use Rattle.model.proofs.Kit.{_≡_, refl, sym, ap, subst, _∙_, true, cond, _&&_, List, none, some, Option, ℕ, _+_, _-_}
-use Rattle.model.proofs.Kit.{_≤_, _<_, _*_, ne-eqb, leb, length, drop, drop-of-length-le, getD, lt-of-not-le, arith}
+use Rattle.model.proofs.Kit.{_≤_, _<_, _*_, ne-eqb, leb, length, drop, drop-of-length-le, getD, lt-of-not-le, w32, Fits}
+use Rattle.model.proofs.Kit.{arith}
 use Rattle.model.specs.Forms.{Read, found, andThen, digit, digitsFrom, natural, numberIn}
 use Rattle.model.proofs.Basics.Tests.{true-T, T-true}
 use Rattle.model.proofs.Calls.Refusals.{within, within-T}
@@ -36,17 +37,17 @@ module _ (l : List ℕ) (r : Read ℕ) where
             subst (λ (x : Read ℕ). x .value ≤ high) same (range .1),
           )
 
-  pub number-wider : (low high : ℕ) → high ≤ 99999 → numberIn low high l ≡ some r → numberIn 0 99999 l ≡ some r
+  pub number-wider : (low high : ℕ) → high ≤ 2147483648 → numberIn low high l ≡ some r → numberIn 0 2147483648 l ≡ some r
   unfolding numberIn andThen found
   number-wider low high h e =
       let g = number-given low high e in
-      let range : leb 0 (r .value) && leb (r .value) 99999 ≡ true =
-      T-true _ (within-T 0 99999 (r .value) (omega arith) (omega (arith, g .2))) in
+      let range : leb 0 (r .value) && leb (r .value) 2147483648 ≡ true =
+      T-true _ (within-T 0 2147483648 (r .value) (omega arith) (omega (arith, g .2))) in
       rw (g .0, range)
 
 -- ---- a number that was found before, in any range up to 99,999, is found again
 
-module _ (line : List ℕ) (at low high : ℕ) (small : high ≤ 99999) (r : Read ℕ)
+module _ (line : List ℕ) (at low high : ℕ) (small : high ≤ 2147483648) (r : Read ℕ)
     (read : numberIn low high (drop at line) ≡ some r) where
   pub stands-there : NumberStands line at
   unfolding NumberStands
@@ -75,10 +76,10 @@ module _ (line : List ℕ) (at : ℕ) (stands : NumberStands line at) where
 
   module _ (no-zero : getD line at 0 ≡ 48 → ⊥) where
     known-digits : (digit (getD line at 0) ≡ true)
-        × (digitsFrom (getD line at 0 - 48) (drop (at + 1) line) .value ≤ 99999)
+        × (digitsFrom (getD line at 0 - 48) (drop (at + 1) line) .value ≤ 2147483648)
     unfolding NumberStands natural
     known-digits =
-        let g = number-given (drop at line) (stands .0) 0 99999 (stands .1) in
+        let g = number-given (drop at line) (stands .0) 0 2147483648 (stands .1) in
         let p =
         passed (digit (getD line at 0)) (some (digitsFrom (getD line at 0 - 48) (drop (at + 1) line))) (stands .0)
         (rw (here line at known-inside, ne-eqb (getD line at 0) 48 no-zero) at (g .0)) in
@@ -92,20 +93,29 @@ module _ (line : List ℕ) (at : ℕ) (stands : NumberStands line at) where
         (lt-of-not-le (λ (h : getD line at 0 ≤ 48). no-zero (omega (arith, range .0))), range .1)
 
     -- its digits, read to where they end
-    pub known-read : (r : FoundNumber) → DigitsIs line (at + 1) (getD line at 0 - 48) 99999 r
-        → NumberIs line at 0 99999 r
+    pub known-read : (r : FoundNumber) → DigitsIs line (at + 1) (getD line at 0 - 48) 2147483648 r
+        → NumberIs line at 0 2147483648 r
     known-read r h =
-        from-digits line at 0 99999 known-inside (omega arith) (omega (arith, first-digit .0)) (first-digit .1) r h
+        from-digits line at 0 2147483648 known-inside (omega arith) (omega (arith, first-digit .0)) (first-digit .1) r h
 
-    pub first-small : getD line at 0 - 48 ≤ 99999
+    pub first-small : getD line at 0 - 48 ≤ 2147483648
     first-small = omega (arith, first-digit .1)
 
-    pub stays-small : (next value : ℕ) → Along line (at + 1) (getD line at 0 - 48) 99999 next value
+    pub stays-small : (next value : ℕ) → Along line (at + 1) (getD line at 0 - 48) 2147483648 next value
         → next < length line → 48 ≤ getD line next 0 → getD line next 0 ≤ 57
-        → 10 * value + (getD line next 0 - 48) ≤ 99999
+        → 10 * value + (getD line next 0 - 48) ≤ 2147483648
     unfolding digitsFrom
     stays-small next value along h low up =
         let more : ℕ = 10 * value + (getD line next 0 - 48) in
         let all : digitsFrom (getD line at 0 - 48) (drop (at + 1) line) ≡ digitsFrom more (drop (next + 1) line) =
         along .same ∙ rw (here line next h, is-digit (getD line next 0) low up) in
         omega (arith, known-digits .1, grows (drop (next + 1) line) more, ap (λ (s : Read ℕ). s .value) all)
+
+    -- so that neither the product nor the sum of the next digit leaves 32 bits
+    module _ (next value : ℕ) (along : Along line (at + 1) (getD line at 0 - 48) 2147483648 next value)
+        (h : next < length line) (low : 48 ≤ getD line next 0) (up : getD line next 0 ≤ 57) where
+      pub product-fits : Fits w32 (10 * value)
+      product-fits = record { fits = omega (arith, stays-small next value along h low up) }
+
+      pub sum-fits : Fits w32 (10 * value + (getD line next 0 - 48))
+      sum-fits = record { fits = omega (arith, stays-small next value along h low up) }

@@ -112,7 +112,7 @@ module _ (line : List ℕ) (at : ℕ) where
     figure-cut h = no-figure (space-read figureIn line at space ∙ rw (drop-of-length-le line h))
 
     -- behind the space, by the sign
-    minus-read : getD line (at + 1) 0 ≡ 45
+    pub minus-read : getD line (at + 1) 0 ≡ 45
         → spaced figureIn (drop at line) ≡ andThen (numberIn 1 2147483648 (drop (at + 2) line))
         (λ v rest. found (negsuc (v - 1)) rest)
     unfolding figureIn
@@ -122,7 +122,7 @@ module _ (line : List ℕ) (at : ℕ) where
         drop-drop 1 (at + 1) line ∙ ap (λ (k : ℕ). drop k line) both in
         space-read figureIn line at space ∙ rw (first-byte line (at + 1), eq-eqb (getD line (at + 1) 0) 45 e, two)
 
-    plain-read : (getD line (at + 1) 0 ≡ 45 → ⊥)
+    pub plain-read : (getD line (at + 1) 0 ≡ 45 → ⊥)
         → spaced figureIn (drop at line) ≡ andThen (numberIn 0 2147483647 (drop (at + 1) line))
         (λ v rest. found (pos v) rest)
     unfolding figureIn

@@ -6,7 +6,7 @@ use Rattle.model.proofs.Kit.{_≤_, _<_, ℤ, length, drop, drop-of-length-le, 
 use Rattle.model.specs.Show.{text}
 use Rattle.model.specs.Forms as forms
 use Rattle.model.specs.Forms.{Items, Read, found, andThen, itemsIn, roundIn, roundsIn, expand, closing, boardRow}
-use Rattle.model.specs.Forms.{proposeRow, stepsRow, roundsRow, same, reads, orFour}
+use Rattle.model.specs.Forms.{singleIn, stepsRow, roundsRow, same, reads, orFour}
 use Rattle.lexer.specs.declared.number.FoundNumber.{FoundNumber}
 use Rattle.lexer.specs.declared.number.FoundNumber.the-variants as numbers
 use Rattle.lexer.specs.declared.number.FoundFigure.{FoundFigure}
@@ -44,8 +44,8 @@ module _ (line : List ℕ) (at : ℕ) (first : FoundNumber) (is : SpacedIs line 
   board-no-first k e = missing at (rw (number-missed line first _ (is .reads) k e))
 
   pub propose-no-first : (k : ℕ) → first ≡ numbers.Refused k
-      → Refused 4 ≡ lineForm at (orFour (proposeRow .reader (drop at line)))
-  unfolding proposeRow andThen
+      → Refused 4 ≡ lineForm at (orFour (singleIn (drop at line)))
+  unfolding singleIn andThen
   propose-no-first k e = missing at (rw (number-missed line first _ (is .reads) k e))
 
   module _ (n next : ℕ) (e : first ≡ numbers.At n next) where
@@ -85,8 +85,8 @@ module _ (line : List ℕ) (at : ℕ) (first : FoundNumber) (is : SpacedIs line 
 
     module _ (second : FoundFigure) (more : FigureIs line next second) where
       pub propose-no-second : (j : ℕ) → second ≡ signed.Refused j
-          → Refused 4 ≡ lineForm at (orFour (proposeRow .reader (drop at line)))
-      unfolding proposeRow andThen found
+          → Refused 4 ≡ lineForm at (orFour (singleIn (drop at line)))
+      unfolding singleIn andThen found
       propose-no-second j q =
           missing at (rw (
             number-found line first _ (is .reads) n next e,
@@ -99,8 +99,8 @@ module _ (line : List ℕ) (at : ℕ) (first : FoundNumber) (is : SpacedIs line 
 
         module _ (t : Bool) (closes : t ≡ same (drop last line) (text ")")) where
           figure-closed-by : {x : Bool} → t ≡ x
-              → proposeRow .reader (drop at line) ≡ cond x (some (forms.propose n v)) none
-          unfolding proposeRow andThen found closing
+              → singleIn (drop at line) ≡ cond x (some (forms.propose n v)) none
+          unfolding singleIn andThen found closing
           figure-closed-by e′ =
               rw (
                 number-found line first _ (is .reads) n next e,
@@ -108,12 +108,12 @@ module _ (line : List ℕ) (at : ℕ) (first : FoundNumber) (is : SpacedIs line 
                 sym closes ∙ e′,
               )
 
-          pub propose-open : t ≡ false → Refused 4 ≡ lineForm at (orFour (proposeRow .reader (drop at line)))
+          pub propose-open : t ≡ false → Refused 4 ≡ lineForm at (orFour (singleIn (drop at line)))
           propose-open h = missing at (figure-closed-by h)
 
           -- the figure comes back by way of its bits
           pub propose-read : t ≡ true → (z : ℤ) → z ≡ v
-              → Propose n z ≡ lineForm at (orFour (proposeRow .reader (drop at line)))
+              → Propose n z ≡ lineForm at (orFour (singleIn (drop at line)))
           unfolding lineForm
           propose-read h z bits = ap (Propose n) bits ∙ given at (figure-closed-by h)
 
@@ -128,20 +128,20 @@ unfolding same
 goes-on line next h = rw (here line next h)
 
 module _ {A : Type 0} (form : A → forms.Form) where
-  unfoldable upToEnd : Option (Read A) → Option forms.Form
+  unfoldable pub upToEnd : Option (Read A) → Option forms.Form
   upToEnd o = andThen o λ a rest. cond (same rest []) (some (form a)) none
 
   module _ (at : ℕ) (o : Option (Read A)) where
-    end-missing : o ≡ none → Refused 4 ≡ lineForm at (orFour (upToEnd o))
+    pub end-missing : o ≡ none → Refused 4 ≡ lineForm at (orFour (upToEnd o))
     unfolding upToEnd andThen
     end-missing e = missing at (rw e)
 
     module _ (line : List ℕ) (a : A) (next : ℕ) (e : o ≡ found a (drop next line)) where
-      end-behind : next < length line → Refused 4 ≡ lineForm at (orFour (upToEnd o))
+      pub end-behind : next < length line → Refused 4 ≡ lineForm at (orFour (upToEnd o))
       unfolding upToEnd andThen found
       end-behind h = missing at (rw (e, goes-on line next h))
 
-      end-read : length line ≤ next → lineForm at (reads (form a)) ≡ lineForm at (orFour (upToEnd o))
+      pub end-read : length line ≤ next → lineForm at (reads (form a)) ≡ lineForm at (orFour (upToEnd o))
       unfolding upToEnd andThen found
       end-read h = given at (rw (e, ends line next h))
 

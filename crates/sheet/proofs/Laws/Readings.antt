@@ -1,11 +1,12 @@
 -- The reading that a form of the code came from; `steps` tells that it was steps, but of its items their count alone,
--- and `rounds` that it was rounds, but of these their number and what they need.
+-- `rounds` that it was rounds, but of these their number and what they need, and pairs their number.
 -- Relies on `lineForm`; the run of a line's items and the player of a line rely on it.
 use Rattle.model.proofs.Kit.{_≡_, refl, subst, List, ℕ, length}
-use Rattle.model.specs.Forms.{Form, board, propose, steps, show, rounds, Items, Reading, reads, unread}
+use Rattle.model.specs.Proposals.{Proposal}
+use Rattle.model.specs.Forms.{Form, board, propose, steps, show, rounds, proposals, Items, Reading, reads, unread}
 use Rattle.halts.specs.Needs.{needs}
 use Rattle.sheet.specs.declared.form.LineForm.{LineForm}
-use Rattle.sheet.specs.declared.form.LineForm.the-variants.{Board, Propose, Steps, Show, Rounds, Refused}
+use Rattle.sheet.specs.declared.form.LineForm.the-variants.{Board, Propose, Steps, Show, Rounds, Proposals, Refused}
 use Rattle.sheet.specs.LineForms.{lineForm}
 
 -- what the form f tells of the reading
@@ -16,6 +17,7 @@ Tells (Steps at c) q = (is : Items) × (q ≡ reads (steps is))
 Tells Show q = q ≡ reads show
 Tells (Rounds at n s) q =
     (k : ℕ) × (rs : List (List ℕ)) × (q ≡ reads (rounds k rs)) × (n ≡ length rs) × (s ≡ needs k rs)
+Tells (Proposals at m) q = (ps : List Proposal) × (q ≡ reads (proposals ps)) × (m ≡ length ps)
 Tells (Refused k) q = q ≡ unread k
 
 its-own : (at : ℕ) (q : Reading Form) → Tells (lineForm at q) q
@@ -25,6 +27,7 @@ its-own at (reads (propose i v)) = refl
 its-own at (reads (steps is)) = (is, refl)
 its-own at (reads show) = refl
 its-own at (reads (rounds k rs)) = (k, rs, refl, refl, refl)
+its-own at (reads (proposals ps)) = (ps, refl, refl)
 its-own at (unread k) = refl
 
 pub read-as : (at : ℕ) (q : Reading Form) (f : LineForm) → lineForm at q ≡ f → Tells f q

@@ -1,0 +1,10 @@
+-- `form::opens_pair` meets its contract: past the end there is no bracket.
+use Rattle.model.proofs.Kit.{needs}
+use Rattle.sheet.proofs.Laws.Pairs.{nothing-opens, one-opens-nothing, second-opens}
+use Rattle.sheet.proofs.form.opens_pair.Statement.{statement}
+use Rattle.sheet.proofs.form.opens_pair.Tie as tie
+
+pub opens-pair-spec : {M : Type 1} → statement M
+opens-pair-spec =
+    tie.close (tie.spec (λ c. search nothing-opens) (λ c. search needs) (λ c. search one-opens-nothing) (λ c. search needs)
+    (λ c. search needs) (λ c. search second-opens))
