@@ -3,6 +3,7 @@ pub mod Times
 pub mod Items
 pub mod Depth
 pub mod Lists
+pub mod Walks
 pub mod Rounds
 pub mod Forms
 pub mod Pairs

@@ -17,3 +17,7 @@ module _ (line : List ℕ) (at : ℕ) where
 
   pub left-over : length (drop at line) ≡ length line - at
   left-over = length-drop at line
+
+  -- where something is left, the place lies inside
+  pub some-byte : (b : ℕ) (l : List ℕ) → drop at line ≡ b ∷ l → at < length line
+  some-byte b l e = omega (arith, left-over, ap length e)

@@ -3,12 +3,12 @@
 -- relies on it.
 use Rattle.model.proofs.Kit.{_≡_, refl, sym, ap, subst, _∙_, Bool, false, List, [], _∷_, _++_, append-nil}
 use Rattle.model.proofs.Kit.{append-assoc, ℕ, _+_, _-_, _≤_, _<_, length, drop, length-drop, getD, w8, Fits}
-use Rattle.model.proofs.Kit.{drop-of-length-le, lt-of-not-le, length-append, drop-drop, arith}
+use Rattle.model.proofs.Kit.{length-append, drop-drop, arith}
 use Rattle.model.specs.Bytes.{byte, Each}
 use Rattle.model.specs.Show.{text, textFrom, decimal}
 use Rattle.model.specs.Forms.{found, digit, numberIn, roundIn}
 use Rattle.model.specs.Grammar.{writtenList, writtenRound}
-use Rattle.model.proofs.Basics.Tests.{impossible, clash}
+use Rattle.model.proofs.Basics.Tests.{clash}
 use Rattle.model.proofs.Sheet.Readers.{Always}
 use Rattle.model.proofs.Sheet.Numbers.{decimal-begins}
 use Rattle.model.proofs.Sheet.NumbersBack.{Stood}
@@ -17,7 +17,7 @@ use Rattle.lexer.specs.declared.known.KnownNumber.{KnownNumber}
 use Rattle.lexer.specs.Known.{NumberStands, KnownIs}
 use Rattle.lexer.proofs.Laws.Given.{found-one}
 use Rattle.lexer.proofs.Laws.Known.{stands-there, known-found}
-use Rattle.lexer.proofs.Laws.Places.{first-byte, behind-first}
+use Rattle.lexer.proofs.Laws.Places.{first-byte, behind-first, some-byte}
 use Rattle.rounds.specs.Suspended.{Suspends, Adds}
 use Rattle.rounds.proofs.Laws.Suspended.{suspends-more}
 use Rattle.line_rounds.specs.LineRounds.{RoundStands, RoundRead, RoundIs}
@@ -45,11 +45,6 @@ unfolding writtenList text textFrom
 left-behind [] rest = refl
 left-behind (i ∷ is) rest =
     (32, λ e. omega arith, ap (λ (l : List ℕ). 32 ∷ l) (append-assoc (decimal i) (writtenList decimal is) (41 ∷ rest)))
-
--- a byte that is not 0 stands inside the line
-some-byte : (line : List ℕ) (place s : ℕ) (l : List ℕ) → drop place line ≡ s ∷ l → place < length line
-some-byte line place s l e =
-    lt-of-not-le (λ (h : length line ≤ place). impossible (let q = drop-of-length-le line h in cc))
 
 -- the byte behind one
 second-byte : (line : List ℕ) (at : ℕ) → getD line (at + 1) 0 ≡ byte (drop 1 (drop at line)) 0

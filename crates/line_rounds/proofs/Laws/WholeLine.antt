@@ -17,7 +17,7 @@ use Rattle.model.specs.Rounds.{decidedOn}
 use Rattle.model.specs.Show.{text, textFrom, decimal}
 use Rattle.model.proofs.Basics.Tests.{by-test, impossible}
 use Rattle.model.proofs.Calls.Refusals.{unless-fails}
-use Rattle.model.proofs.Sheet.Lists.{station-read, list-stops, rounds-read}
+use Rattle.model.proofs.Sheet.Lists.{station-read, list-stops, no-more, rounds-read}
 use Rattle.model.proofs.Sheet.WrittenBack.{LineStood, line-stood}
 use Rattle.halts.specs.Needs as halts
 use Rattle.lexer.specs.declared.known.KnownNumber.{KnownNumber}
@@ -27,7 +27,7 @@ use Rattle.lexer.proofs.Laws.Known.{stands-there, known-found, known-inside}
 use Rattle.lexer.proofs.Laws.Places.{behind-first}
 use Rattle.sheet.specs.declared.form.LineForm.the-variants.{Rounds}
 use Rattle.sheet.specs.LineForms.{lineForm}
-use Rattle.sheet.proofs.Laws.Readings.{read-as}
+use Rattle.sheet.proofs.Laws.Readings.{read-as, not-long}
 use Rattle.rounds.specs.Asked.{Refuses}
 use Rattle.rounds.proofs.Laws.Rounds.{rounds-turned, rounds-passed, left-sound, rounds-refused, rounds-played}
 use Rattle.line_rounds.specs.LineRounds.{RoundsStand, RoundsPlay, LineHas, PlaysLine}
@@ -40,23 +40,6 @@ unfolding wordPlace firstWord upToStop written text textFrom
 behind-word k rs = refl
 
 -- a line that is read has at most 255 bytes, and so fewer rounds
-some-rounds : (rs : List (List ℕ)) → length rs ≤ length (writtenList writtenRound rs)
-unfolding writtenList text textFrom
-some-rounds [] = omega arith
-some-rounds (r ∷ rs) =
-    omega (arith, some-rounds rs, length-append (writtenRound r) (writtenList writtenRound rs))
-
-too-long : (l : List ℕ) → leb (length l) 255 ≡ false → unread 2 ≡ readLine l
-unfolding readLine
-too-long l t =
-    sym (ap (λ (r : Refusal). elim r [ none ↦ orFour (formIn l) | some k ↦ unread k ])
-    (unless-fails (leb (length l) 255) 2 _ t))
-
-not-long : (l : List ℕ) (f : forms.Form) → readLine l ≡ reads f → length l ≤ 255
-not-long l f e =
-    by-test (leb (length l) 255) (λ t. leb-true (length l) 255 t)
-    (λ t. impossible (let q : unread 2 ≡ reads f = too-long l t ∙ e in cc))
-
 pub few : (line : List ℕ) (k : ℕ) (rs : List (List ℕ)) → readLine line ≡ reads (forms.rounds k rs) → length rs ≤ 255
 unfolding LineStood written text textFrom
 few line k rs e =
@@ -64,7 +47,7 @@ few line k rs e =
     omega (
       arith,
       not-long line _ e,
-      some-rounds rs,
+      no-more writtenRound rs,
       ap length (stood .0),
       length-append (decimal k) (writtenList writtenRound rs ++ (41 ∷ [])),
       length-append (writtenList writtenRound rs) (41 ∷ []),

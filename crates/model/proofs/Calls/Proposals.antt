@@ -1,7 +1,7 @@
 -- Proposals put in together: what passing their refusals says, that each is then accepted by itself and the other way
 -- round, and that a refused call alters nothing.
 -- Relies on Refusals, CallsKeep and StepsTaken; the claim about any order, a sheet's pairs and the code rely on it.
-use Rattle.model.proofs.Kit.{_≡_, refl, sym, ap, subst, _∙_, Bool, true, false, _||_, not, inl, inr, List, [], _∷_, none}
+use Rattle.model.proofs.Kit.{_≡_, refl, sym, ap, subst, _∙_, Bool, true, false, _||_, not, inl, inr, List, [], _∷_, _++_, none}
 use Rattle.model.proofs.Kit.{some, ℕ, _-_, _<_, lit<, eqb, eqb-true, eqb-false, T, arith}
 use Rattle.model.specs.Bytes.{names, Each}
 use Rattle.model.specs.Figure.{Figure}
@@ -222,6 +222,17 @@ module _ (ps : List Proposal) (b : List ℕ) where
   pub together-refused : (k : ℕ) → proposeAll ps b .answer ≡ some k → proposeAll ps b .bytes ≡ b
   together-refused k =
       together-case (λ a. a .answer ≡ some k → a .bytes ≡ b) (λ e f. some-none k (sym f)) (λ j e f. refl)
+
+-- some pairs, and others behind them
+pub one-by-one-more : (ps qs : List Proposal) (b : List ℕ) → oneByOne (ps ++ qs) b ≡ oneByOne qs (oneByOne ps b)
+unfolding oneByOne
+one-by-one-more [] qs b = refl
+one-by-one-more (p ∷ ps) qs b = one-by-one-more ps qs _
+
+pub accepted-later : (ps qs : List Proposal) (b : List ℕ) → AllAccepted (ps ++ qs) b → AllAccepted qs (oneByOne ps b)
+unfolding AllAccepted oneByOne
+accepted-later [] qs b a = a
+accepted-later (p ∷ ps) qs b a = accepted-later ps qs _ (a .1)
 
 pub one-by-one-keeps : (ps : List Proposal) → AllFit ps → (b : List ℕ) → Board b → Board (oneByOne ps b)
 unfolding AllFit Each Fits oneByOne

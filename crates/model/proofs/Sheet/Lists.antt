@@ -45,6 +45,12 @@ module _ {A : Type 0} (write : A → List ℕ) where
   unfolding writtenList text textFrom
   longer x xs = simp length-append (omega arith)
 
+  -- each thing takes a byte at least
+  pub no-more : (xs : List A) → length xs ≤ length (writtenList write xs)
+  unfolding writtenList text textFrom
+  no-more [] = omega arith
+  no-more (x ∷ xs) = omega (arith, no-more xs, longer x xs)
+
   -- the reader of one thing finds a written one
   module _ (one : List ℕ → Option (Read A)) (P : A → Type 0)
       (reads : (x : A) → P x → (rest : List ℕ) → Stops rest → one (write x ++ rest) ≡ found x rest) where

@@ -13,30 +13,34 @@ use Rattle.model.proofs.Sheet.NumbersBack.{Stood, in-front, spaced-stoo
 use Rattle.model.proofs.Sheet.Lists.{station-read, bracket-stops, space-stops, list-read, ListStood, list-stood}
 use Rattle.model.proofs.Sheet.Lists.{station-stood}
 
-pair-regrouped : (p : Proposal) (rest : List ℕ)
+pub pair-regrouped : (p : Proposal) (rest : List ℕ)
     → writtenPair p ++ rest ≡ 40 ∷ (decimal (p .station) ++ (32 ∷ (signed (p .figure) ++ (41 ∷ rest))))
 unfolding writtenPair text textFrom
 pair-regrouped p rest = simp append-assoc
 
 -- ---- what is read of written pairs
 
-pair-read : (p : Proposal) → PairInRange p → (rest : List ℕ) → Stops rest → pairIn (writtenPair p ++ rest) ≡ found p rest
+pub pair-read : (p : Proposal) → PairInRange p → (rest : List ℕ) → Stops rest → pairIn (writtenPair p ++ rest) ≡ found p rest
 unfolding pairIn spaced PairInRange found
 pair-read p h rest s =
     ap pairIn (pair-regrouped p rest) ∙ then-found _ (station-read (p .station) (h .0) _ (space-stops _))
     ∙ then-found _ (figure-signed (p .figure) (h .1) _ (bracket-stops rest))
 
+pub pairs-read : (ps : List Proposal) → Each PairInRange ps → (rest : List ℕ)
+    → pairsIn (writtenList writtenPair ps ++ (41 ∷ rest)) ≡ found ps rest
+unfolding pairsIn
+pairs-read ps h rest =
+    list-read writtenPair pairIn PairInRange pair-read ps _
+    (omega (arith, length-append (writtenList writtenPair ps) (41 ∷ rest))) h rest
+
 pub together-read : (ps : List Proposal) → Each PairInRange ps
     → togetherIn (writtenList writtenPair ps ++ (41 ∷ [])) ≡ some (proposals ps)
-unfolding togetherIn pairsIn same
-together-read ps h =
-    then-found _
-    (list-read writtenPair pairIn PairInRange pair-read ps _
-    (omega (arith, length-append (writtenList writtenPair ps) (41 ∷ []))) h [])
+unfolding togetherIn same
+together-read ps h = then-found _ (pairs-read ps h [])
 
 -- ---- what the reader takes for pairs
 
-pair-stood : (l : List ℕ) → Always (Stood writtenPair PairInRange l) (pairIn l)
+pub pair-stood : (l : List ℕ) → Always (Stood writtenPair PairInRange l) (pairIn l)
 unfolding pairIn Stood PairInRange found Always
 pair-stood l =
     let P = Stood writtenPair PairInRange l in
