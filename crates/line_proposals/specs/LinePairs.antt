@@ -60,9 +60,12 @@ PairsPut line at b d = OfPairs line at (λ ps. d ≡ oneByOne ps b)
 abbrev pub PairsPropose : (line : List ℕ) (at : ℕ) (b : List ℕ) → Verdict → List ℕ → Type 0
 PairsPropose line at b r d = OfPairs line at (λ ps. ProposesAll ps b r d)
 
--- the line was read as pairs, which follow the place `at`
+-- the line was read as so many pairs, which stand from `at` on
+unfoldable pub LineCounts : (line : List ℕ) (at count : ℕ) → Type 0
+LineCounts line at count = lineForm (wordPlace line) (readLine line) ≡ Proposals at count
+
 unfoldable pub LineHas : (line : List ℕ) (at : ℕ) → Type 0
-LineHas line at = (count : ℕ) × (lineForm (wordPlace line) (readLine line) ≡ Proposals at count)
+LineHas line at = (count : ℕ) × LineCounts line at count
 
 -- and its pairs are put in as the call for several stations puts them in
 unfoldable pub ProposesLine : (line b : List ℕ) → Verdict → List ℕ → Type 0

@@ -2,4 +2,5 @@
 pub mod Parts
 pub mod Playing
 pub mod PlayingRounds
+pub mod PlayingPairs
 pub mod Reading

@@ -5,7 +5,8 @@ use mathlib.Core.Path.{_≡_}
 use mathlib.Core.List.{List}
 use Prim.Native.Nat.{ℕ, _<_}
 use lib.ListN.{length}
-use Rattle.model.specs.Forms.{Items, steps, rounds, reads, readLine}
+use Rattle.model.specs.Proposals.{Proposal}
+use Rattle.model.specs.Forms.{Items, steps, rounds, proposals, reads, readLine}
 use Rattle.model.specs.Sheet as model
 use Rattle.shown.specs.Puts.{Holds}
 use Rattle.player.specs.declared.line.Played.{Played}
@@ -30,3 +31,8 @@ unfoldable pub PlaysRounds : (line : List ℕ) (laid : ℕ) (m : List ℕ) → P
 PlaysRounds line laid m r d =
     (k : ℕ) (rs : List (List ℕ)) → readLine line ≡ reads (rounds k rs)
     → Plays (model.playForm laid m (rounds k rs)) r d
+
+-- and one that was read as pairs
+unfoldable pub PlaysProposals : (line : List ℕ) (laid : ℕ) (m : List ℕ) → Played → List ℕ → Type 0
+PlaysProposals line laid m r d =
+    (ps : List Proposal) → readLine line ≡ reads (proposals ps) → Plays (model.playForm laid m (proposals ps)) r d

@@ -1,17 +1,19 @@
 // One line of a run sheet on a lent memory: refusals 2 to 6, then the call's own, and the printed line by value.
-// Relies on the reader of lines, the run of items, the play of rounds, the calls and the lines they print; the answers of
-// a sheet and the C interface rely on it.
+// Relies on the reader of lines, the run of items, the play of rounds, the proposals of pairs, the calls and the lines they
+// print; the answers of a sheet and the C interface rely on it.
 ghost use mathlib.Core.Path.{_≡_};
 ghost use Prim.Native.Nat.{min};
 ghost use Rattle.model.specs.Forms as forms;
 ghost use Rattle.model.specs.Sheet.{playLine, playForm};
 ghost use Rattle.line_run.specs.LineRuns.{LineCounts};
 ghost use Rattle.line_rounds.specs.LineRounds.{LineHas};
-ghost use Rattle.player.specs.Played.{Plays, TurnsDown, PlaysSteps, PlaysRounds};
+ghost use Rattle.line_proposals.specs.LinePairs as linePairs;
+ghost use Rattle.player.specs.Played.{Plays, TurnsDown, PlaysSteps, PlaysRounds, PlaysProposals};
 use calls::lay;
 use calls::propose;
 use calls::show;
 use codec::places::board_length;
+use line_proposals::propose_line;
 use line_rounds::play_rounds_line;
 use line_run::run_line;
 use model::RoundsVerdict;
@@ -24,6 +26,7 @@ use shown::answer::played_line;
 use shown::answer::proposed_line;
 use shown::answer::ran_line;
 use shown::answer::refused_line;
+use shown::answer::together_line;
 use shown::line::Line;
 
 // What is printed, without its LF, and how many bytes of the memory are the board that was laid last; 0 is none.
@@ -127,6 +130,24 @@ fn play_rounds(
     }
 }
 
+fn play_proposals(memory: &mut [u8], laid: usize, line: &[u8], at: usize, pairs: usize) -> Played
+    requires { ⌜ linePairs.LineCounts (now line) at pairs ⌝ }
+    ensures { λ r. ⌜ PlaysProposals (now (line .entry)) laid (now (memory .entry)) r (now (memory .exit)) ⌝ }
+{
+    if laid == 0 {
+        return turned_down(5, laid);
+    }
+    let part = least(laid, memory.len());
+    let proposal = propose_line(&mut memory[..part], line, at);
+    match proposal {
+        Verdict::Refused { number } => turned_down(number, laid),
+        Verdict::Accepted => Played {
+            line: together_line(pairs as u32),
+            laid,
+        },
+    }
+}
+
 fn play_show(memory: &[u8], laid: usize) -> Played
     ensures { λ r. ⌜ Plays (playForm laid (now (memory .entry)) forms.show) r (now (memory .entry)) ⌝ }
 {
@@ -163,5 +184,6 @@ pub fn play_line(line: &[u8], laid: usize, memory: &mut [u8]) -> Played
         LineForm::Rounds { at, rounds, needs } => {
             play_rounds(memory, laid, line, at, rounds, needs)
         }
+        LineForm::Proposals { at, pairs } => play_proposals(memory, laid, line, at, pairs),
     }
 }

@@ -1,17 +1,17 @@
 -- The lines of a run sheet's forms piece by piece: the room that each piece finds, and their order.
 -- Relies on Putting, Rooms and Bounds; the proofs of src/answer.rt rely on it.
-use Rattle.model.proofs.Kit.{_≡_, sym, subst, List, [], _∷_, _++_, append-assoc, ℕ, _<_, pos, length, arith}
+use Rattle.model.proofs.Kit.{_≡_, sym, subst, List, [], _∷_, _++_, append-assoc, ℕ, _≤_, _<_, pos, length, arith}
 use Rattle.model.specs.Figure.{Figure}
 use Rattle.model.specs.Show.{text, textFrom, decimal, signed}
 use Rattle.model.specs.Calls.{ran}
 use Rattle.model.specs.Rounds.{played}
-use Rattle.model.specs.Sheet.{refusedText, laidText, proposedText, ranText, playedText}
+use Rattle.model.specs.Sheet.{laidText, proposedText, ranText, playedText}
 use Rattle.shown.specs.declared.line.Line.{Line}
 use Rattle.shown.specs.Puts.{Holds, Puts, Room}
-use Rattle.shown.specs.Texts.{twoNumbers}
+use Rattle.shown.specs.Texts.{numberedText, twoNumbers}
 use Rattle.shown.proofs.Putting.{puts-then, puts-holds}
 use Rattle.shown.proofs.Rooms.{Rooms, rooms, rooms-three, rooms-four, holds-room, room-same}
-use Rattle.shown.proofs.Bounds.{refused-short, laid-short, proposed-short, ran-short, played-short}
+use Rattle.shown.proofs.Bounds.{numbered-short, laid-short, proposed-short, ran-short, played-short}
 
 -- ---- two numbers
 
@@ -72,18 +72,21 @@ module _ {none : Line} (h : Holds none []) where
   pub played-room : (r d : ℕ) → Room none (text "(played " ++ twoNumbers r d)
   played-room r d = room-two (text "(played ") (playedText (played r d)) r d (played-is r d) (played-short r d)
 
-  module _ {a : Line} (k : ℕ) (p : Puts none (text "(refused ") a) where
-    refused-rooms : Rooms none (text "(refused ") (decimal k) (text ")") [] []
-    unfolding refusedText
-    refused-rooms =
-        rooms-three (text "(refused ") (decimal k) (text ")")
-        (holds-room [] (refusedText k) h (omega (arith, refused-short k)))
+  module _ (w : List ℕ) (fits : length w ≤ 64) where
+    numbered-rooms : (k : ℕ) → Rooms none w (decimal k) (text ")") [] []
+    unfolding numberedText
+    numbered-rooms k =
+        rooms-three w (decimal k) (text ")") (holds-room [] (numberedText w k) h (omega (arith, numbered-short w k fits)))
 
-    pub refused-number : Room a (decimal k)
-    refused-number = refused-rooms .second p
+    pub numbered-word : Room none w
+    numbered-word = numbered-rooms 0 .first
 
-    pub refused-close : {b : Line} → Puts a (decimal k) b → Room b (text ")")
-    refused-close q = refused-rooms .third p q
+    module _ {a : Line} (k : ℕ) (p : Puts none w a) where
+      pub numbered-number : Room a (decimal k)
+      numbered-number = numbered-rooms k .second p
+
+      pub numbered-close : {b : Line} → Puts a (decimal k) b → Room b (text ")")
+      numbered-close q = numbered-rooms k .third p q
 
   module _ {a : Line} (i : ℕ) (v : Figure) (p : Puts none (text "(proposed ") a) where
     proposed-rooms : Rooms none (text "(proposed ") (decimal i) (text " ") (signed v) (text ")")
@@ -109,10 +112,10 @@ module _ {none : Line} (h : Holds none []) where
     proposed-space q = proposed-rooms i (pos 0) p .third p q
 
   module _ {a r : Line} where
-    pub holds-refused : {d : Line} (k : ℕ) → Puts none (text "(refused ") a → Puts a (decimal k) d → Puts d (text ")") r
-        → Holds r (refusedText k)
-    unfolding refusedText
-    holds-refused k p q s = puts-holds (puts-then (puts-then p q) s) [] h
+    pub holds-numbered : {d : Line} (w : List ℕ) (k : ℕ) → Puts none w a → Puts a (decimal k) d → Puts d (text ")") r
+        → Holds r (numberedText w k)
+    unfolding numberedText
+    holds-numbered w k p q s = puts-holds (puts-then (puts-then p q) s) [] h
 
     pub holds-laid : (n K : ℕ) → Puts none (text "(laid ") a → Puts a (twoNumbers n K) r → Holds r (laidText n K)
     holds-laid n K p q = subst (Holds r) (laid-is n K) (puts-holds (puts-then p q) [] h)

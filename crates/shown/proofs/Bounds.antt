@@ -11,12 +11,12 @@ use Rattle.model.specs.Standing.{standingOf}
 use Rattle.model.specs.Show.{text, textFrom, signed, worded, standingText, status, statuses, shownLine, shownAs}
 use Rattle.model.specs.Calls.{stations, islands, ran}
 use Rattle.model.specs.Rounds.{played}
-use Rattle.model.specs.Sheet.{refusedText, laidText, proposedText, ranText, playedText}
+use Rattle.model.specs.Sheet.{refusedText, laidText, proposedText, togetherText, ranText, playedText}
 use Rattle.model.specs.Told.{verdict, shownTold}
 use Rattle.model.proofs.Board.Good.{GoodStation, GoodStage}
 use Rattle.shown.specs.declared.line.Line.{Line}
 use Rattle.shown.specs.Puts.{Holds}
-use Rattle.shown.specs.Texts.{statusOf, standingBytes, islandShown}
+use Rattle.shown.specs.Texts.{statusOf, standingBytes, islandShown, numberedText}
 use Rattle.shown.proofs.Decimals.{length-two, length-any}
 use Rattle.shown.proofs.Statuses.{length-standing, length-status}
 
@@ -105,9 +105,17 @@ shown-is line l h = λ i. record { refusal = none; line = h .bytes i; len = h .l
 
 -- ---- the lines of a run sheet: each leaves room for its LF
 
+pub numbered-short : (w : List ℕ) (k : ℕ) → length w ≤ 64 → length (numberedText w k) < 512
+unfolding numberedText text textFrom
+numbered-short w k h = simp length-append (omega (arith, length-any k))
+
 pub refused-short : (k : ℕ) → length (refusedText k) < 512
-unfolding refusedText text textFrom
-refused-short k = simp length-append (omega (arith, length-any k))
+unfolding refusedText numberedText text textFrom
+refused-short k = numbered-short (text "(refused ") k (omega arith)
+
+pub together-short : (m : ℕ) → length (togetherText m) < 512
+unfolding togetherText numberedText text textFrom
+together-short m = numbered-short (text "(proposed ") m (omega arith)
 
 pub laid-short : (n K : ℕ) → length (laidText n K) < 512
 unfolding laidText text textFrom

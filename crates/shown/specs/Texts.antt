@@ -1,4 +1,5 @@
--- Parts of lines: one station's, as the definition of `show` has it, and the two numbers that end a run sheet's answer.
+-- Parts of lines: one station's, as the definition of `show` has it, and the one or two numbers that end a run sheet's
+-- answer.
 -- Relies on the model's texts and numbers; the contracts of statuses and of the answers rely on it.
 use mathlib.Core.List.{List, _++_}
 use Prim.Native.Nat.{ℕ}
@@ -25,3 +26,7 @@ islandShown (active v (is-spent c x)) = c
 -- "a b)"
 unfoldable pub twoNumbers : (a b : ℕ) → List ℕ
 twoNumbers a b = decimal a ++ text " " ++ decimal b ++ text ")"
+
+-- a word and "a)"
+unfoldable pub numberedText : (word : List ℕ) (a : ℕ) → List ℕ
+numberedText w a = w ++ decimal a ++ text ")"

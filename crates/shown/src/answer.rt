@@ -6,20 +6,37 @@ use crate::line::put_word;
 use crate::line::write_byte;
 use crate::number::write_decimal;
 use crate::number::write_figure;
+ghost use Prim.Native.Nat.{_≤_};
+ghost use lib.ListN.{length};
 ghost use Rattle.model.specs.Calls.{ran};
 ghost use Rattle.model.specs.Rounds.{played};
-ghost use Rattle.model.specs.Sheet.{refusedText, laidText, proposedText, ranText, playedText};
+ghost use Rattle.model.specs.Sheet.{refusedText, laidText, proposedText, togetherText, ranText, playedText};
 ghost use Rattle.shown.specs.Puts.{Holds, Puts, Room, lineOf};
-ghost use Rattle.shown.specs.Texts.{twoNumbers};
+ghost use Rattle.shown.specs.Texts.{numberedText, twoNumbers};
+
+// A bracket with its word and a space, a number, and the closing bracket.
+fn numbered_line(word: &[u8], number: u32) -> Line
+    requires { ⌜ length (now word) ≤ 64 ⌝ }
+    ensures { λ r. ⌜ Holds r (numberedText (now (word .entry)) number) ⌝ }
+{
+    let open = put_word(empty(), word);
+    let mut bytes = open.bytes;
+    let numbered = write_decimal(&mut bytes, open.len, number);
+    let len = write_byte(&mut bytes, numbered, b')');
+    Line { bytes, len }
+}
 
 pub fn refused_line(number: u8) -> Line
     ensures { λ r. ⌜ Holds r (refusedText number) ⌝ }
 {
-    let open = put_word(empty(), b"(refused ");
-    let mut bytes = open.bytes;
-    let numbered = write_decimal(&mut bytes, open.len, number as u32);
-    let len = write_byte(&mut bytes, numbered, b')');
-    Line { bytes, len }
+    numbered_line(b"(refused ", number as u32)
+}
+
+// So many pairs were put in together.
+pub fn together_line(pairs: u32) -> Line
+    ensures { λ r. ⌜ Holds r (togetherText pairs) ⌝ }
+{
+    numbered_line(b"(proposed ", pairs)
 }
 
 // Two numbers and the closing bracket.

@@ -23,7 +23,7 @@ use Rattle.sheet.proofs.Laws.Readings.{read-as, not-long}
 use Rattle.proposing.specs.Answers.{ProposesAll}
 use Rattle.proposing.proofs.Laws.Together.{board-refuses-all, pairs-refuse, pairs-free, pairs-put}
 use Rattle.line_proposals.specs.LinePairs.{PairsStand, PairsTaken, OfPairs, PairsRefuse, PairsPut, PairsPropose}
-use Rattle.line_proposals.specs.LinePairs.{LineHas, ProposesLine}
+use Rattle.line_proposals.specs.LinePairs.{LineCounts, LineHas, ProposesLine}
 
 -- ---- pairs that stand at a place of a line, on a sound board
 
@@ -84,7 +84,7 @@ module _ (line : List ℕ) (ps : List Proposal) (e : readLine line ≡ reads (fo
 
   module _ (at : ℕ) (has : LineHas line at) where
     placed : wordPlace line ≡ at
-    unfolding LineHas lineForm
+    unfolding LineHas LineCounts lineForm
     placed =
         let q : line-forms.Proposals (wordPlace line) (length ps) ≡ line-forms.Proposals at (has .0)
         = sym (ap (lineForm (wordPlace line)) e) ∙ has .1 in cc
@@ -97,7 +97,7 @@ module _ (line : List ℕ) (ps : List Proposal) (e : readLine line ≡ reads (fo
 
 module _ (line : List ℕ) (at : ℕ) (has : LineHas line at) where
   pub pairs-stand : PairsStand line at
-  unfolding LineHas
+  unfolding LineHas LineCounts
   pairs-stand =
       let q = read-as (wordPlace line) (readLine line) (line-forms.Proposals at (has .0)) (has .1) in
       record { pairs = q .0; rest = []; read = there line (q .0) (q .1) at has }
@@ -111,3 +111,11 @@ pub line-refused : (line b : List ℕ) (w : Verdict) (k : ℕ) → w ≡ Refused
     → ProposesLine line b (Refused k) b
 unfolding ProposesLine ProposesAll
 line-refused line b w k e h ps q = board-refuses-all ps b w k e h
+
+-- the count that the line was read with is that of its pairs
+pub counted : (line : List ℕ) (at count : ℕ) → LineCounts line at count → (ps : List Proposal)
+    → readLine line ≡ reads (forms.proposals ps) → count ≡ length ps
+unfolding LineCounts lineForm
+counted line at count has ps e =
+    let q : line-forms.Proposals (wordPlace line) (length ps) ≡ line-forms.Proposals at count
+    = sym (ap (lineForm (wordPlace line)) e) ∙ has in cc

@@ -11,8 +11,9 @@ use Rattle.sheet.specs.LineForms.{lineForm}
 use Rattle.sheet.proofs.Laws.Readings.{Tells, read-as}
 use Rattle.line_run.specs.LineRuns.{LineCounts}
 use Rattle.line_rounds.specs.LineRounds.{LineHas}
+use Rattle.line_proposals.specs.LinePairs as linePairs
 use Rattle.player.specs.declared.line.Played.{Played}
-use Rattle.player.specs.Played.{Plays, TurnsDown, PlaysSteps, PlaysRounds}
+use Rattle.player.specs.Played.{Plays, TurnsDown, PlaysSteps, PlaysRounds, PlaysProposals}
 use Rattle.player.proofs.Laws.Playing.{turned-plays}
 
 -- f is the form that the code read
@@ -44,6 +45,11 @@ module _ (laid : ℕ) (m line : List ℕ) (f : LineForm) (read : f ≡ lineForm 
   unfolding playReading PlaysRounds
   line-rounds at c s e h = let t = tells (lines.Rounds at c s) e in as-read _ (t .2) (h (t .0) (t .1) (t .2))
 
+  pub line-proposals : (at c : ℕ) → f ≡ lines.Proposals at c → PlaysProposals line laid m r d
+      → Plays (playLine laid m line) r d
+  unfolding playReading PlaysProposals
+  line-proposals at c e h = let t = tells (lines.Proposals at c) e in as-read _ (t .1) (h (t .0) (t .1))
+
   pub line-show : f ≡ lines.Show → Plays (playForm laid m forms.show) r d → Plays (playLine laid m line) r d
   unfolding playReading
   line-show e h = as-read _ (tells lines.Show e) h
@@ -63,3 +69,7 @@ module _ (line : List ℕ) (f : LineForm) (read : f ≡ lineForm (wordPlace line
   pub line-has : (at c s : ℕ) → f ≡ lines.Rounds at c s → LineHas line at c s
   unfolding LineHas
   line-has at c s e = sym read ∙ e
+
+  pub line-pairs : (at c : ℕ) → f ≡ lines.Proposals at c → linePairs.LineCounts line at c
+  unfolding linePairs.LineCounts
+  line-pairs at c e = sym read ∙ e
