@@ -3,6 +3,7 @@
 ghost use mathlib.Core.Path.{_≡_};
 ghost use mathlib.Core.Option.{none};
 ghost use Rattle.model.specs.Calls.{boardRefusal, lay, propose, step, run};
+ghost use Rattle.model.specs.Proposals.{lentPairs, proposeAll};
 ghost use Rattle.model.specs.Rounds.{lentRounds, rounds};
 ghost use Rattle.model.specs.Standing.{standing};
 ghost use Rattle.packing.specs.Packing.{packVerdict, packStep, packRun, packRounds, packStanding};
@@ -26,6 +27,14 @@ pub extern "C" fn lufanelis_propose(board: &mut [u8], station: u8, figure: i32) 
     ensures { λ r. ⌜ (r ≡ packVerdict (propose station figure (now (board .entry)) .answer)) × (now (board .exit) ≡ propose station figure (now (board .entry)) .bytes) ⌝ }
 {
     verdict_number(calls::propose(board, station, figure))
+}
+
+// Each number of the list is a pair, so that no lengths can fail to fit.
+#[no_mangle]
+pub extern "C" fn lufanelis_propose_all(board: &mut [u8], pairs: &[u64]) -> u8
+    ensures { λ r. ⌜ (r ≡ packVerdict (proposeAll (lentPairs (now (pairs .entry))) (now (board .entry)) .answer)) × (now (board .exit) ≡ proposeAll (lentPairs (now (pairs .entry))) (now (board .entry)) .bytes) ⌝ }
+{
+    verdict_number(calls::propose_all(board, pairs))
 }
 
 #[no_mangle]
