@@ -58,6 +58,6 @@ unfolding Starred Holds rise rows sheet asLines layIn number digits part splice 
     tooDeep orFour readLine refusedText orRefused laidText proposedText ranText shownText turnedDown playBoard onBoard
     playForm playReading playLine onFirst endedBy printed playSheet outcome ranges
     count listIn stationsIn roundIn roundsIn names inTurn roundSteps roundsSteps settled allSettled rising roundKnown
-    roundsKnown roundsRefusal standsDecided decidedOn playedTo rounds playedText pairIn pairsIn singleIn togetherIn named
-    eachOnce firstFault pairsRefusal proposalsRefusal oneByOne proposeAll togetherText
+    roundsKnown roundsRefusal standsDecided decidedOn playedTo rounds playedText pairIn pairsIn singleIn togetherIn
+    named eachOnce firstFault pairsRefusal proposalsRefusal oneByOne proposeAll togetherText
 starred = (refl, (refl, (refl, (refl, (refl, (refl, (refl, (refl, (refl, (refl, (refl, (refl, (refl, tt)))))))))))))

@@ -8,7 +8,8 @@ use Rattle.model.specs.Forms.{Form, board, propose, steps, show, rounds, propos
 use Rattle.model.specs.Forms.{unread}
 use Rattle.halts.specs.Needs.{needs}
 use Rattle.sheet.specs.declared.form.LineForm.{LineForm}
-use Rattle.sheet.specs.declared.form.LineForm.the-variants.{Board, Propose, Steps, Show, Rounds, Proposals, Refused}
+use Rattle.sheet.specs.declared.form.LineForm.the-variants.{Board, Propose, Steps, Show, Rounds, Proposals}
+use Rattle.sheet.specs.declared.form.LineForm.the-variants.{Refused}
 use Rattle.sheet.specs.Counts.{capped}
 
 unfoldable pub lineForm : (at : ℕ) → Reading Form → LineForm

@@ -76,7 +76,8 @@ module _ {none : Line} (h : Holds none []) where
     numbered-rooms : (k : ℕ) → Rooms none w (decimal k) (text ")") [] []
     unfolding numberedText
     numbered-rooms k =
-        rooms-three w (decimal k) (text ")") (holds-room [] (numberedText w k) h (omega (arith, numbered-short w k fits)))
+        rooms-three w (decimal k) (text ")")
+        (holds-room [] (numberedText w k) h (omega (arith, numbered-short w k fits)))
 
     pub numbered-word : Room none w
     numbered-word = numbered-rooms 0 .first

@@ -37,7 +37,8 @@ module _ (l : List ℕ) (r : Read ℕ) where
             subst (λ (x : Read ℕ). x .value ≤ high) same (range .1),
           )
 
-  pub number-wider : (low high : ℕ) → high ≤ 2147483648 → numberIn low high l ≡ some r → numberIn 0 2147483648 l ≡ some r
+  pub number-wider : (low high : ℕ) → high ≤ 2147483648 → numberIn low high l ≡ some r
+      → numberIn 0 2147483648 l ≡ some r
   unfolding numberIn andThen found
   number-wider low high h e =
       let g = number-given low high e in

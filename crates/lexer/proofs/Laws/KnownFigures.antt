@@ -1,9 +1,9 @@
 -- A figure that is known to stand behind a space: its sign, and its size as a number that is known to stand there.
 -- Relies on Given, Known and Spaced; the proof of src/known.rt and the proposals of a line above rely on it.
-use Rattle.model.proofs.Kit.{_≡_, refl, sym, ap, _∙_, List, none, some, ℕ, _+_, _-_, _≤_, _<_, pos, negsuc, length, drop}
+use Rattle.model.proofs.Kit.{_≡_, refl, sym, ap, _∙_, List, ℕ, _+_, _-_, _≤_, _<_, pos, negsuc, length, drop}
 use Rattle.model.proofs.Kit.{drop-of-length-le, getD, lt-of-not-le, eqb, eqb-true, eqb-false, w32, toZ, SFits, arith}
 use Rattle.model.specs.Figure.{Figure}
-use Rattle.model.specs.Forms.{Read, found, andThen, spaced, natural, numberIn, figureIn, orFour}
+use Rattle.model.specs.Forms.{found, andThen, spaced, natural, numberIn, figureIn, orFour}
 use Rattle.model.proofs.Basics.Tests.{by-test}
 use Rattle.lexer.specs.declared.number.FoundNumber.the-variants.{At}
 use Rattle.lexer.specs.declared.number.FoundFigure.the-variants as signed
@@ -98,4 +98,5 @@ pub figure-known : (line : List ℕ) (at : ℕ) (v : Figure) (rest : List ℕ) �
     → (n : KnownFigure) → KnownFigureIs line at n → (n .value ≡ v) × (drop (n .next) line ≡ rest)
 unfolding found
 figure-known line at v rest e n is =
-    found-one _ _ _ _ (sym (figure-found line (signed.At (n .value) (n .next)) _ (is .reads) (n .value) (n .next) refl) ∙ e)
+    found-one _ _ _ _
+    (sym (figure-found line (signed.At (n .value) (n .next)) _ (is .reads) (n .value) (n .next) refl) ∙ e)

@@ -1,8 +1,7 @@
 -- The pairs of a line one after another: what was tried, or put in, at each place where the next pair begins.
 -- Relies on the walk along a list in a line and on pairs tried and put in; the proofs of the two loops rely on it.
-use Rattle.model.proofs.Kit.{_≡_, refl, sym, ap, subst, _∙_, Bool, false, List, [], _∷_, _++_, append-assoc, none, ℕ, _+_}
-use Rattle.model.proofs.Kit.{_-_, _<_, length, drop, replicate, getD, w32, toZ, ofZ, toZ-ofZ, SFits, arith}
-use Rattle.model.specs.Figure.{Figure}
+use Rattle.model.proofs.Kit.{_≡_, refl, sym, ap, subst, _∙_, Bool, false, List, [], _∷_, _++_, none, ℕ, _+_}
+use Rattle.model.proofs.Kit.{_-_, _<_, length, replicate, getD, w32, toZ, ofZ, toZ-ofZ, SFits, arith}
 use Rattle.model.specs.Calls.{boardRefusal, proposalRefusal, propose}
 use Rattle.model.specs.Forms.{pairIn, pairsIn}
 use Rattle.model.specs.Grammar.{writtenPair, PairInRange}
@@ -11,13 +10,13 @@ use Rattle.model.specs.AnyOrder.{AllAccepted}
 use Rattle.model.proofs.Calls.Refusals.{board-passes}
 use Rattle.model.proofs.Calls.Proposals.{accepted-of, accepted-later, one-by-one-more}
 use Rattle.model.proofs.Sheet.Pairs.{pair-read, pair-stood}
-use Rattle.soundness.specs.Shaped.{numbered}
 use Rattle.lexer.proofs.Laws.Given.{found-one}
 use Rattle.sheet.proofs.Laws.Walks.{Kind, Walk, walk-begun, walk-inside, walk-ended, Next, next, Behind, walk-more}
 use Rattle.proposing.specs.Tried.{Tried, TriesNext}
 use Rattle.proposing.proofs.Laws.Trying.{tried-none}
 use Rattle.line_proposals.specs.declared.PairAt.{PairAt}
-use Rattle.line_proposals.specs.LinePairs.{PairStands, PairRead, PairIs, PairsStand, PairsTaken, OfPairs, PairsPut}
+use Rattle.line_proposals.specs.LinePairs.{PairStands, PairRead, PairIs, PairsStand, PairsTaken, OfPairs}
+use Rattle.line_proposals.specs.LinePairs.{PairsPut}
 use Rattle.line_proposals.specs.LinePairs.{PairsRefuse}
 
 pub pair-kind : Kind Proposal

@@ -1,9 +1,9 @@
 -- One pair as it stands in a line: its number, and its figure behind a space.
 -- Relies on the model's written pairs and on numbers and figures that are known to stand at a place; the proof of
 -- `pair_at` relies on it.
-use Rattle.model.proofs.Kit.{_≡_, sym, ap, subst, _∙_, List, _∷_, _++_, ℕ, _+_, _≤_, _<_, length, drop, w8, w64, Fits}
+use Rattle.model.proofs.Kit.{_≡_, sym, ap, subst, _∙_, List, _∷_, _++_, ℕ, _+_, _<_, length, drop, w8, w64, Fits}
 use Rattle.model.proofs.Kit.{arith}
-use Rattle.model.specs.Show.{decimal, signed}
+use Rattle.model.specs.Show.{signed}
 use Rattle.model.specs.Figure.{Figure}
 use Rattle.model.specs.Forms.{found, spaced, numberIn, figureIn, pairIn}
 use Rattle.model.specs.Grammar.{writtenPair, PairInRange}
@@ -20,7 +20,6 @@ use Rattle.lexer.proofs.Laws.Given.{found-one}
 use Rattle.lexer.proofs.Laws.Known.{known-inside, known-found}
 use Rattle.lexer.proofs.Laws.KnownFigures.{number-stands, figure-known}
 use Rattle.lexer.proofs.Laws.Places.{behind-first, some-byte}
-use Rattle.line_proposals.specs.declared.PairAt.{PairAt}
 use Rattle.line_proposals.specs.LinePairs.{PairStands, PairRead, PairIs}
 
 -- ---- a pair that was read stands there as it is written

@@ -9,7 +9,7 @@ use Rattle.model.specs.Bytes.{Each}
 use Rattle.model.specs.Show.{text, textFrom}
 use Rattle.model.specs.Calls.{boardRefusal}
 use Rattle.model.specs.Forms as forms
-use Rattle.model.specs.Forms.{found, pairIn, pairsIn, upToStop, firstWord, wordPlace, reads, readLine}
+use Rattle.model.specs.Forms.{found, pairsIn, upToStop, firstWord, wordPlace, reads, readLine}
 use Rattle.model.specs.Grammar.{written, writtenList, writtenPair, PairInRange, InRange}
 use Rattle.model.specs.Proposals.{Proposal, AllFit}
 use Rattle.model.specs.Told.{verdict}

@@ -1,6 +1,7 @@
 -- `pair_at` meets its contract: a number and a figure that are known to stand there.
 use Rattle.model.proofs.Kit.{needs, arith}
-use Rattle.line_proposals.proofs.Laws.OnePair.{number-stands-there, pair-inside, figure-stands, station-fits, next-fits, pair-is}
+use Rattle.line_proposals.proofs.Laws.OnePair.{number-stands-there, pair-inside, figure-stands, station-fits}
+use Rattle.line_proposals.proofs.Laws.OnePair.{next-fits, pair-is}
 use Rattle.line_proposals.proofs.pair_at.Statement.{statement}
 use Rattle.line_proposals.proofs.pair_at.Tie as tie
 

@@ -7,5 +7,6 @@ use Rattle.line_proposals.proofs.propose_line.Tie as tie
 
 pub propose-line-spec : {M : Type 1} → statement M
 propose-line-spec =
-    tie.close (tie.spec (λ c κs. search needs) (λ c. search needs) (λ c. search needs) (λ c κs. search (passed, pairs-stand))
-    (λ c. search needs) (λ c. search line-refused) (λ c. search needs) (λ c. search line-proposed))
+    tie.close (tie.spec (λ c κs. search needs) (λ c. search needs) (λ c. search needs)
+    (λ c κs. search (passed, pairs-stand)) (λ c. search needs) (λ c. search line-refused) (λ c. search needs)
+    (λ c. search line-proposed))

@@ -1,6 +1,6 @@
 -- The rounds of a line one after another: what has been played at each place where the next round begins.
 -- Relies on the walk along a list in a line and on steps put together; the proof of `play_rounds_at` relies on it.
-use Rattle.model.proofs.Kit.{_≡_, ap, _∙_, List, [], _∷_, _++_, none, ℕ, _+_, _-_, _<_, length, drop, getD, arith}
+use Rattle.model.proofs.Kit.{_≡_, ap, _∙_, List, [], _∷_, _++_, none, ℕ, _+_, _-_, _<_, length, getD, arith}
 use Rattle.model.specs.Calls.{stations, boardRefusal, stepOn}
 use Rattle.model.specs.Forms.{roundIn, roundsIn}
 use Rattle.model.specs.Grammar.{writtenRound}

@@ -1,22 +1,19 @@
 -- A line that was read as `rounds`: where its number and its rounds stand, and the answer of its play at each return.
 -- Relies on the sheet's Readings, on what a read line holds and on the call by the round; the proof of
 -- `play_rounds_line` relies on it.
-use Rattle.model.proofs.Kit.{_≡_, refl, sym, ap, subst, _∙_, false, List, [], _∷_, _++_, none, some, ℕ, _+_, _≤_, leb}
-use Rattle.model.proofs.Kit.{leb-true}
+use Rattle.model.proofs.Kit.{_≡_, refl, sym, ap, subst, _∙_, List, [], _∷_, _++_, none, ℕ, _+_, _≤_}
 use Rattle.model.proofs.Kit.{length, drop, length-append}
 use Rattle.model.proofs.Kit.{arith}
 use Rattle.model.specs.declared.Verdict.{Verdict}
 use Rattle.model.specs.declared.Verdict.the-variants as verdicts
 use Rattle.model.specs.declared.RoundsVerdict.the-variants as byRound
-use Rattle.model.specs.Calls.{Refusal, boardRefusal}
+use Rattle.model.specs.Calls.{boardRefusal}
 use Rattle.model.specs.Forms as forms
-use Rattle.model.specs.Forms.{found, numberIn, roundsIn, upToStop, firstWord, wordPlace, formIn, reads, unread}
-use Rattle.model.specs.Forms.{orFour, readLine}
+use Rattle.model.specs.Forms.{found, numberIn, roundsIn, upToStop, firstWord, wordPlace, reads}
+use Rattle.model.specs.Forms.{readLine}
 use Rattle.model.specs.Grammar.{written, writtenList, writtenRound, InRange}
 use Rattle.model.specs.Rounds.{decidedOn}
 use Rattle.model.specs.Show.{text, textFrom, decimal}
-use Rattle.model.proofs.Basics.Tests.{by-test, impossible}
-use Rattle.model.proofs.Calls.Refusals.{unless-fails}
 use Rattle.model.proofs.Sheet.Lists.{station-read, list-stops, no-more, rounds-read}
 use Rattle.model.proofs.Sheet.WrittenBack.{LineStood, line-stood}
 use Rattle.halts.specs.Needs as halts

@@ -61,7 +61,8 @@ module _ (at : ℕ) (v b : List ℕ) (fits : at + length v ≤ length b) where
   byte-same j h l =
       let from-there : at + (j - at) ≡ j = omega arith in
       ap (byte (splice at v b)) (sym from-there)
-      ∙ sym (byte-part at (length v) (splice at v b) (j - at) (omega arith)) ∙ ap (λ (w : List ℕ). byte w (j - at)) part-same
+      ∙ sym (byte-part at (length v) (splice at v b) (j - at) (omega arith))
+      ∙ ap (λ (w : List ℕ). byte w (j - at)) part-same
 
   part-as : (from len : ℕ) → from + len ≤ length b
       → ((i : ℕ) → i < len → byte (splice at v b) (from + i) ≡ byte b (from + i))

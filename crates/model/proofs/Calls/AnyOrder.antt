@@ -1,6 +1,6 @@
 -- Single proposals in any order: each is accepted, and the board is the same.
 -- Relies on Proposals and on records that are put in in either order; it proves `AnyOrder`.
-use Rattle.model.proofs.Kit.{_≡_, refl, sym, ap, subst, subst₂, _∙_, List, [], _∷_, none, ℕ, _-_, arith}
+use Rattle.model.proofs.Kit.{_≡_, refl, sym, ap, subst, subst₂, _∙_, List, _∷_, none, ℕ, _-_, arith}
 use mathlib.Core.List.{List·Permᴰ, List·Permᴰ·nil, List·Permᴰ·cons, List·Permᴰ·swap, List·Permᴰ·trans, Permᴰ·symm}
 use Rattle.model.specs.declared.Record.{Record}
 use Rattle.model.specs.Bytes.{Each}
@@ -85,8 +85,7 @@ swapped p q l b h fp fq a =
     let then = accepted-of j w _ (a .1 .0) .1 in
     let ne : i ≡ j → ⊥ = λ e. free-no-more i v b h first fp (subst (Free (propose i v b .bytes)) (sym e) then) in
     let other = free-back i v b h first j (λ e. ne (sym e)) then in
-    let same = commute i j v w b h ne first other fp fq in
-    (
+    let same = commute i j v w b h ne first other fp fq in (
       (
         ap (λ (r : After Refusal). r .answer) (accepts j w b h other),
         (

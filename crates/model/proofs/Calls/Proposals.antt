@@ -1,22 +1,23 @@
 -- Proposals put in together: what passing their refusals says, that each is then accepted by itself and the other way
 -- round, and that a refused call alters nothing.
 -- Relies on Refusals, CallsKeep and StepsTaken; the claim about any order, a sheet's pairs and the code rely on it.
-use Rattle.model.proofs.Kit.{_≡_, refl, sym, ap, subst, _∙_, Bool, true, false, _||_, not, inl, inr, List, [], _∷_, _++_, none}
+use Rattle.model.proofs.Kit.{_≡_, refl, sym, ap, subst, _∙_, Bool, false, _||_, not, List, [], _∷_, _++_, none}
 use Rattle.model.proofs.Kit.{some, ℕ, _-_, _<_, lit<, eqb, eqb-true, eqb-false, T, arith}
 use Rattle.model.specs.Bytes.{names, Each}
 use Rattle.model.specs.Figure.{Figure}
-use Rattle.model.specs.Listing.{Station, idle, active, proposed}
+use Rattle.model.specs.Listing.{idle, active, proposed}
 use Rattle.model.specs.Layout.{readRecord, recordValue, recordOf, stationOf}
-use Rattle.model.specs.Calls.{After, Refusal, unless, unlessRefused, stations, islands, boardRefusal, stationAt}
+use Rattle.model.specs.Calls.{After, Refusal, unlessRefused, stations, islands, stationAt}
 use Rattle.model.specs.Calls.{putProposal, notIdle, proposalRefusal, propose}
 use Rattle.model.specs.Proposals.{Proposal, AllFit, named, eachOnce, orLater, firstFault, pairsRefusal}
 use Rattle.model.specs.Proposals.{proposalsRefusal, oneByOne, proposeAll}
 use Rattle.model.specs.AnyOrder.{AllAccepted}
-use Rattle.model.proofs.Basics.Tests.{and-l, and-r, and-i, T-true, T-false, by-test, clash}
+use Rattle.model.proofs.Basics.Tests.{and-l, and-r, and-i, T-false, by-test, clash}
 use Rattle.model.proofs.Board.Codec.{Fits, station-bytes}
 use Rattle.model.proofs.Board.Boards.{record-same}
-use Rattle.model.proofs.Calls.Refusals.{some-none, refusal-case, unless-passes, unless-none, call-case, Board}
-use Rattle.model.proofs.Calls.Refusals.{board-of, board-passes, OnBoard, station-of, station-passes, index-inside}
+use Rattle.model.proofs.Calls.Refusals.{some-none, unless-passes, unless-none, call-case, Board}
+use Rattle.model.proofs.Calls.Refusals.{board-of, board-passes, OnBoard, station-of, station-passes}
+use Rattle.model.proofs.Calls.Refusals.{index-inside}
 use Rattle.model.proofs.Calls.CallsKeep.{idle-of, proposed-fits, propose-keeps, propose-head}
 use Rattle.model.proofs.Calls.StepsTaken.{proposed-other}
 
@@ -94,6 +95,7 @@ module _ (j : ℕ) (w : Figure) (b : List ℕ) (h : Board b) (free : Free b j) w
     where
       idle-active : {v : Figure} {s : _} → idle ≡ active v s → ⊥
       idle-active q = absurd (let z : _≡_ {A = ℕ} 0 1 = cc in omega arith)
+
 -- ---- pairs
 
 abbrev pub AllFree : List ℕ → List Proposal → Type 0
@@ -173,8 +175,7 @@ unfolding AllFit Each Fits AllAccepted eachOnce named
 all-accepted [] b fits p = tt
 all-accepted (q ∷ ps) b fits p =
     let free = p .free .0 in
-    let names-not = T-false _ (and-l (not (names (q .station) (named ps))) (eachOnce (named ps)) (p .once)) in
-    (
+    let names-not = T-false _ (and-l (not (names (q .station) (named ps))) (eachOnce (named ps)) (p .once)) in (
       ap (λ (a : After Refusal). a .answer) (accepts (q .station) (q .figure) b (p .board) free),
       all-accepted ps _ (fits .1) (record {
         board = propose-keeps (q .station) (q .figure) (fits .0) b (p .board);
@@ -207,7 +208,8 @@ module _ (ps : List Proposal) (b : List ℕ) where
   together-case P = call-case P (proposalsRefusal ps b) some b _
 
   pub together-passes : proposeAll ps b .answer ≡ none → proposalsRefusal ps b ≡ none
-  together-passes = together-case (λ a. a .answer ≡ none → proposalsRefusal ps b ≡ none) (λ e f. e) (λ k e f. some-none k f)
+  together-passes =
+      together-case (λ a. a .answer ≡ none → proposalsRefusal ps b ≡ none) (λ e f. e) (λ k e f. some-none k f)
 
   pub together-is : proposalsRefusal ps b ≡ none
       → proposeAll ps b ≡ (record { answer = none; bytes = oneByOne ps b })

@@ -1,7 +1,8 @@
 -- Each form of the sheet once: a form is `board`, or a call on the board that was laid, with all that the sheet's laws
 -- ask of it. Relies on played lines and on what they print; lists of calls, what no line prints and the C interface
 -- rely on `each-form`.
-use Rattle.model.proofs.Kit.{_≡_, refl, sym, ap, _∙_, inl, inr, List, [], _∷_, _++_, map, none, some, ℕ, leb, length}
+use Rattle.model.proofs.Kit.{_≡_, refl, sym, ap, _∙_, inl, inr, List, [], _∷_, _++_, map, none, some, ℕ, leb}
+use Rattle.model.proofs.Kit.{length}
 use Rattle.model.proofs.Kit.{take, drop, take-append-drop}
 use Rattle.model.specs.Layout.{boardLength}
 use Rattle.model.specs.Calls.{After, lay, run}

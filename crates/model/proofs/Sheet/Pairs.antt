@@ -1,6 +1,6 @@
 -- Pairs as they are written: the reader finds in them those pairs, and takes nothing else for them.
 -- Relies on the reading of numbers and of lists; both directions of the grammar rely on it.
-use Rattle.model.proofs.Kit.{_≡_, sym, ap, subst, _∙_, true, List, [], _∷_, _++_, append-assoc, some, ℕ, _≤_, lit<}
+use Rattle.model.proofs.Kit.{_≡_, sym, ap, _∙_, List, [], _∷_, _++_, append-assoc, some, ℕ, _≤_, lit<}
 use Rattle.model.proofs.Kit.{_+_, eqb, eqb-true, length, drop, length-append, w32, SFits, arith}
 use Rattle.model.specs.Bytes.{byte, Each}
 use Rattle.model.specs.Show.{textFrom, text, decimal, signed}
@@ -20,7 +20,8 @@ pair-regrouped p rest = simp append-assoc
 
 -- ---- what is read of written pairs
 
-pub pair-read : (p : Proposal) → PairInRange p → (rest : List ℕ) → Stops rest → pairIn (writtenPair p ++ rest) ≡ found p rest
+pub pair-read : (p : Proposal) → PairInRange p → (rest : List ℕ) → Stops rest
+    → pairIn (writtenPair p ++ rest) ≡ found p rest
 unfolding pairIn spaced PairInRange found
 pair-read p h rest s =
     ap pairIn (pair-regrouped p rest) ∙ then-found _ (station-read (p .station) (h .0) _ (space-stops _))

@@ -121,7 +121,8 @@ reads-written (board n K) h =
     then-found _ (station-read n (h .0) _ (space-stops _)) ∙ then-found _ (station-read K (h .1) _ (bracket-stops []))
 reads-written (propose i v) h =
     rw (digit-not (byte (decimal i ++ (32 ∷ (signed v ++ (41 ∷ [])))) 0) 40 (decimal-begins i _) not-bracket)
-    (then-found _ (station-read i (h .0) _ (space-stops _)) ∙ then-found _ (figure-signed v (h .1) _ (bracket-stops [])))
+    (then-found _ (station-read i (h .0) _ (space-stops _))
+    ∙ then-found _ (figure-signed v (h .1) _ (bracket-stops [])))
 reads-written (steps done) h = steps-read done h
 reads-written (steps (next i is)) h = steps-read (next i is) h
 reads-written show h = refl

@@ -206,8 +206,8 @@ together-stood k b =
     always-then (ListStood writtenPair PairInRange k) (Proposes k) (pairsIn k) _ (pairs-stood k)
     (λ r h. always-if (Proposes k) (same (r .rest) []) (some (proposals (r .value)))
     (λ e. let is : k ≡ writtenList writtenPair (r .value) ++ (41 ∷ [])
-    = h .0 ∙ ap (λ (x : List ℕ). writtenList writtenPair (r .value) ++ (41 ∷ x)) (same-text (r .rest) [] (true-T _ e)) in
-    (
+    = h .0
+    ∙ ap (λ (x : List ℕ). writtenList writtenPair (r .value) ++ (41 ∷ x)) (same-text (r .rest) [] (true-T _ e)) in (
       ap (λ (x : List ℕ). 40 ∷ (text "propose" ++ x)) is,
       (one-at-least (r .value) (ap (λ (x : List ℕ). byte x 1) (sym is) ∙ b), h .1),
     )))

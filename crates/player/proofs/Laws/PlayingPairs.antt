@@ -5,7 +5,7 @@ use Rattle.model.proofs.Kit.{_≡_, refl, ap, subst, List, _++_, ℕ, length, d
 use Prim.Native.Nat.{min}
 use Rattle.model.specs.declared.Verdict.{Verdict}
 use Rattle.model.specs.declared.Verdict.the-variants as verdicts
-use Rattle.model.specs.Proposals.{Proposal, proposeAll}
+use Rattle.model.specs.Proposals.{proposeAll}
 use Rattle.model.specs.Told.{verdict}
 use Rattle.model.specs.Forms.{wordPlace, readLine}
 use Rattle.model.specs.Sheet.{orRefused, togetherText, playForm}
@@ -49,7 +49,8 @@ module _ (line : List ℕ) (laid : ℕ) (m : List ℕ) where
         (ap (λ (v : Verdict). orRefused (verdict v) (togetherText (length ps))) e) t
 
     pub pairs-play : (at count : ℕ) → LineCounts line at count → (l : Line) → w ≡ verdicts.Accepted
-        → Holds l (togetherText count) → PlaysProposals line laid m (record { line = l; laid = laid }) (d ++ drop part m)
+        → Holds l (togetherText count)
+        → PlaysProposals line laid m (record { line = l; laid = laid }) (d ++ drop part m)
     unfolding PlaysProposals ProposesLine ProposesAll playForm orRefused verdict
     pairs-play at count has l e h = λ ps q.
         on-part laid m (λ a. orRefused a (togetherText (length ps))) (proposeAll ps) part (verdict w) d f lent

@@ -1,6 +1,6 @@
 -- The set of the stations that were named: none, and one more.
 -- Relies on the definition of the set; the proofs of those who name stations rely on it.
-use Rattle.model.proofs.Kit.{_≡_, refl, sym, ap, _∙_, Bool, true, false, _||_, List, [], _∷_, _++_, ℕ, _≤_}
+use Rattle.model.proofs.Kit.{_≡_, refl, sym, ap, _∙_, Bool, true, false, _||_, List, [], ℕ}
 use Rattle.model.proofs.Kit.{eqb, eqb-true, eqb-false, length, replicate, set, length-set, getD, w8, Fits}
 use Rattle.model.proofs.Kit.{arith}
 use lib.ListN.{getD-replicate}
@@ -21,7 +21,8 @@ module _ (flags : List Bool) (j : ℕ) (size : length flags ≡ 256) (byte : Fit
   entry : (i : ℕ) → getD (set flags j true) i false ≡ getD flags i false || eqb i j
   entry i =
       by-test (eqb i j)
-      (λ t. rw (t, eqb-true i j t) (getD-set-same flags j true false (omega (arith, byte .fits)) ∙ sym (or-any (getD flags j false))))
+      (λ t. rw (t, eqb-true i j t) (getD-set-same flags j true false (omega (arith, byte .fits))
+      ∙ sym (or-any (getD flags j false))))
       (λ t. rw t (getD-set-other flags j i true false (eqb-false i j t)
       ∙ sym (or-none (getD flags i false))))
 

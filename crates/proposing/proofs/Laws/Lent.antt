@@ -4,10 +4,9 @@ use Rattle.model.proofs.Kit.{_≡_, refl, sym, ap, subst, _∙_, Bool, false, L
 use Rattle.model.proofs.Kit.{_<_, _%_, _/_, length, take, drop, replicate, getD, take-all, drop-of-length-le, add-one}
 use Rattle.model.proofs.Kit.{map, w8, Fits, w32, toZ, ofZ, toZ-ofZ, SFits, arith}
 use lib.Seq.{take-suc, drop-cons}
-use Rattle.model.specs.Bytes.{Each}
 use Rattle.model.specs.Figure.{Figure}
 use Rattle.model.specs.Calls.{boardRefusal, proposalRefusal, propose}
-use Rattle.model.specs.Proposals.{Proposal, AllFit, lentPair, lentPairs, pairsRefusal, oneByOne}
+use Rattle.model.specs.Proposals.{Proposal, lentPair, lentPairs, pairsRefusal, oneByOne}
 use Rattle.model.specs.AnyOrder.{AllAccepted}
 use Rattle.model.proofs.Basics.Numbers.{signed-fits}
 use Rattle.model.proofs.Calls.Refusals.{board-passes}
@@ -111,8 +110,9 @@ module _ (b xs : List ℕ) where
             → c ≡ propose station (toZ w32 (ofZ w32 v)) d .bytes → PutTo b xs (i + 1) c
         unfolding AllAccepted oneByOne lentPair
         put-next v q c ec =
+            let fits = subst (SFits w32) (sym q) (signed-fits (getD xs i 0 / 4294967296)) in
             let same : c ≡ propose (lentPair (getD xs i 0) .station) (lentPair (getD xs i 0) .figure) d .bytes
-            = ec ∙ (λ k. propose (e k) ((toZ-ofZ (subst (SFits w32) (sym q) (signed-fits (getD xs i 0 / 4294967296))) ∙ q) k) d .bytes) in
+            = ec ∙ (λ k. propose (e k) ((toZ-ofZ fits ∙ q) k) d .bytes) in
             record {
               left = subst (AllAccepted (lentPairs (drop (i + 1) xs))) (sym same) (taken .1);
               ends =

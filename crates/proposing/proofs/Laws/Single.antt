@@ -10,7 +10,7 @@ use Rattle.model.specs.Figure.{Figure}
 use Rattle.model.specs.Listing.{proposed}
 use Rattle.model.specs.Layout.{recordAt, readRecord, layRecord, recordFields, writingOf, readingOf, ofPhase}
 use Rattle.model.specs.Layout.{recordValue, recordOf, withSteps}
-use Rattle.model.specs.Calls.{After, Refusal, stations, islands, boardRefusal, stationAt, unlessRefused, putRecord}
+use Rattle.model.specs.Calls.{After, Refusal, stations, islands, boardRefusal, unlessRefused, putRecord}
 use Rattle.model.specs.Calls.{notIdle, proposalRefusal, propose}
 use Rattle.model.specs.Told.{verdict}
 use Rattle.model.proofs.Basics.Splices.{byte-part}
@@ -22,7 +22,7 @@ use Rattle.soundness.specs.declared.place.Place.{Place}
 use Rattle.soundness.specs.declared.place.Place.the-variants as places
 use Rattle.soundness.specs.Placed.{On, Placed}
 use Rattle.soundness.proofs.Laws.Checked.{turned, past-board}
-use Rattle.soundness.proofs.Laws.Placing.{Head, head, at-place, not-placed, own-value}
+use Rattle.soundness.proofs.Laws.Placing.{head, at-place, not-placed, own-value}
 use Rattle.soundness.proofs.Laws.Verdicts.{refused-by, passed-by}
 use Rattle.proposing.specs.Answers.{Proposes}
 

@@ -1,7 +1,7 @@
 -- Pairs tried one after another: with one more, all are refused as they are together.
 -- Relies on the set of named stations and on the model's refusals of pairs; the loops over pairs rely on it.
 use Rattle.model.proofs.Kit.{_≡_, refl, sym, ap, subst, _∙_, Bool, true, false, _&&_, not, List, [], _∷_, _++_, none}
-use Rattle.model.proofs.Kit.{some, ℕ, zero, suc, map, replicate}
+use Rattle.model.proofs.Kit.{some, ℕ, replicate}
 use Rattle.model.specs.Bytes.{names}
 use Rattle.model.specs.Figure.{Figure}
 use Rattle.model.specs.Calls.{Refusal, unless, proposalRefusal}
@@ -72,7 +72,8 @@ module _ (b : List ℕ) (flags : List Bool) (i number : ℕ) (after : List Bool)
   unfolding TriesNext numbered
   twenty e ps v t =
       next 20 ps v t (λ n. sym (refusal-more ps (pairOf i v) b
-      ∙ unless-fails _ 20 _ (ap (λ (x : Bool). eachOnce (named ps) && not x) (sym n ∙ e) ∙ and-false (eachOnce (named ps)))))
+      ∙ unless-fails _ 20 _
+      (ap (λ (x : Bool). eachOnce (named ps) && not x) (sym n ∙ e) ∙ and-false (eachOnce (named ps)))))
 
   module _ (new : twice ≡ false) where
     only-new : (ps : List Proposal) (v : Figure) → twice ≡ names i (named ps)

@@ -1,14 +1,15 @@
 -- Pairs as they are read: one pair in its brackets, the pairs of a line, and the form that they are.
 -- Relies on the laws of lists and forms and the lexer's Places and Spaced; the proofs of src/pairs.rt and of the form
 -- rely on it.
-use Rattle.model.proofs.Kit.{_≡_, refl, sym, ap, _∙_, Bool, true, false, cond, List, [], none, ℕ, _+_, _-_, _≤_, _<_, ℤ, eq-eqb}
+use Rattle.model.proofs.Kit.{_≡_, refl, sym, ap, _∙_, Bool, true, false, cond, List, [], none, ℕ, _+_, _-_, _≤_, _<_, ℤ}
+use Rattle.model.proofs.Kit.{eq-eqb}
 use Rattle.model.proofs.Kit.{ne-eqb, eqb, length, drop, drop-of-length-le, getD, w8, Fits, arith}
 use lib.Seq.{getD-drop}
 use lib.ListN.{List·getD-eq-default}
 use Rattle.model.specs.Bytes.{byte}
 use Rattle.model.specs.Proposals.{Proposal}
 use Rattle.model.specs.Forms as forms
-use Rattle.model.specs.Forms.{Read, found, andThen, spaced, numberIn, pairIn, pairsIn, singleIn, togetherIn, proposeRow}
+use Rattle.model.specs.Forms.{found, andThen, spaced, pairIn, pairsIn, singleIn, togetherIn, proposeRow}
 use Rattle.model.specs.Forms.{orFour}
 use Rattle.lexer.specs.declared.number.FoundNumber.{FoundNumber}
 use Rattle.lexer.specs.declared.number.FoundNumber.the-variants as numbers
@@ -27,7 +28,7 @@ use Rattle.sheet.specs.declared.form.LineForm.{LineForm}
 use Rattle.sheet.specs.declared.form.LineForm.the-variants as line-forms
 use Rattle.sheet.specs.Counts.{readAs}
 use Rattle.sheet.specs.Lists.{Summary, summary, listedAt, ListIs}
-use Rattle.sheet.specs.Pairs.{pairAt, PairInside, PairIs, needNothing}
+use Rattle.sheet.specs.Pairs.{pairAt, PairIs, needNothing}
 use Rattle.sheet.specs.LineForms.{lineForm}
 use Rattle.sheet.proofs.Laws.Forms.{upToEnd, end-missing, end-behind, end-read}
 use Rattle.sheet.proofs.Laws.Lists.{as-none, as-found, listed-missed, listed-found, Summed, sum-begun}

@@ -10,7 +10,8 @@ use Rattle.model.proofs.Basics.Tests.{by-test, impossible}
 use Rattle.model.proofs.Calls.Refusals.{unless-fails}
 use Rattle.halts.specs.Needs.{needs}
 use Rattle.sheet.specs.declared.form.LineForm.{LineForm}
-use Rattle.sheet.specs.declared.form.LineForm.the-variants.{Board, Propose, Steps, Show, Rounds, Proposals, Refused}
+use Rattle.sheet.specs.declared.form.LineForm.the-variants.{Board, Propose, Steps, Show, Rounds, Proposals}
+use Rattle.sheet.specs.declared.form.LineForm.the-variants.{Refused}
 use Rattle.sheet.specs.LineForms.{lineForm}
 
 -- what the form f tells of the reading

@@ -11,8 +11,8 @@ pub play-line-spec : {M : Type 1} → statement M
 play-line-spec =
     tie.close (tie.spec (λ c κs. search needs) (λ c. search needs) (λ c κs. search needs) (λ c. search needs)
     (λ c κs. search needs) (λ c. search needs) (λ c κs. search needs) (λ c. search needs) (λ c κs. search line-counts)
-    (λ c. search needs) (λ c κs. search needs) (λ c. search needs) (λ c κs. search line-has)
-    (λ c. search needs) (λ c κs. search line-pairs) (λ c. search line-turned) (λ c. search needs) (λ c. search line-board) (λ c. search needs)
-    (λ c. search (same-figure, line-propose, needs)) (λ c. search needs) (λ c. search line-steps)
+    (λ c. search needs) (λ c κs. search needs) (λ c. search needs) (λ c κs. search line-has) (λ c. search needs)
+    (λ c κs. search line-pairs) (λ c. search line-turned) (λ c. search needs) (λ c. search line-board)
+    (λ c. search needs) (λ c. search (same-figure, line-propose, needs)) (λ c. search needs) (λ c. search line-steps)
     (λ c. search needs) (λ c. search line-show) (λ c. search needs) (λ c. search line-rounds) (λ c. search needs)
     (λ c. search line-proposals))

@@ -1,5 +1,5 @@
 -- `lent::pairs_refusal`: the loop keeps what the pairs passed are refused with; each turn is a law of Lent.
-use Rattle.model.proofs.Kit.{_-_, _≤_, needs, length, arith}
+use Rattle.model.proofs.Kit.{_-_, needs, length}
 use Rattle.proposing.proofs.Laws.Lent.{TriedTo, tried-begun, tried-size, tried-next, tried-all}
 use Rattle.proposing.proofs.lent.pairs_refusal.Statement.{statement}
 use Rattle.proposing.proofs.lent.pairs_refusal.Tie as tie
@@ -12,5 +12,6 @@ abbrev μ-loop : tie.MeasureT-loop
 
 pub pairs-refusal-spec : {M : Type 1} → statement M
 pairs-refusal-spec =
-    tie.close (tie.spec Inv-loop μ-loop (λ c. search tried-begun) (λ c. search needs) (λ c. search needs) (λ c κs. search needs)
-    (λ c κs. search tried-size) (λ c. search needs) (λ c. search needs) (λ c. search tried-next) (λ c. search tried-all))
+    tie.close (tie.spec Inv-loop μ-loop (λ c. search tried-begun) (λ c. search needs) (λ c. search needs)
+    (λ c κs. search needs) (λ c κs. search tried-size) (λ c. search needs) (λ c. search needs) (λ c. search tried-next)
+    (λ c. search tried-all))

@@ -12,6 +12,6 @@ abbrev μ-loop : tie.MeasureT-loop
 
 pub put-pairs-spec : {M : Type 1} → statement M
 put-pairs-spec =
-    tie.close (tie.spec Inv-loop μ-loop (λ c. search put-begun) (λ c. search needs) (λ c. search needs) (λ c κs. search needs)
-    (λ c κs. search needs) (λ c κs. search (next-sound, next-free)) (λ c. search needs) (λ c. search needs)
-    (λ c. search put-next) (λ c. search needs) (λ c. search put-all))
+    tie.close (tie.spec Inv-loop μ-loop (λ c. search put-begun) (λ c. search needs) (λ c. search needs)
+    (λ c κs. search needs) (λ c κs. search needs) (λ c κs. search (next-sound, next-free)) (λ c. search needs)
+    (λ c. search needs) (λ c. search put-next) (λ c. search needs) (λ c. search put-all))

@@ -6,5 +6,5 @@ use Rattle.proposing.proofs.single.propose_on.Tie as tie
 
 pub propose-on-spec : {M : Type 1} → statement M
 propose-on-spec =
-    tie.close (tie.spec (λ c κs. search needs) (λ c. search needs) (λ c. search station-refuses) (λ c κs. search station-free)
-    (λ c. search needs) (λ c. search proposed-all))
+    tie.close (tie.spec (λ c κs. search needs) (λ c. search needs) (λ c. search station-refuses)
+    (λ c κs. search station-free) (λ c. search needs) (λ c. search proposed-all))

@@ -8,5 +8,6 @@ use Rattle.proposing.proofs.single.put_in.Tie as tie
 pub put-in-spec : {M : Type 1} → statement M
 put-in-spec =
     tie.close (tie.spec (λ c. omega (arith, head-long)) (λ c. record { fits = omega (arith, n-high) })
-    (λ c. omega (arith, head-long)) (λ c. record { fits = omega (arith, k-high) }) (λ c. search index-from) (λ c κs. search (n-high, k-high, own-inside)) (λ c κs. search record-there)
-    (λ c κs. search needs) (λ c κs. search record-there) (λ c. search needs) (λ c. search put-in))
+    (λ c. omega (arith, head-long)) (λ c. record { fits = omega (arith, k-high) }) (λ c. search index-from)
+    (λ c κs. search (n-high, k-high, own-inside)) (λ c κs. search record-there) (λ c κs. search needs)
+    (λ c κs. search record-there) (λ c. search needs) (λ c. search put-in))

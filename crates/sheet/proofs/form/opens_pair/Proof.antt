@@ -6,5 +6,5 @@ use Rattle.sheet.proofs.form.opens_pair.Tie as tie
 
 pub opens-pair-spec : {M : Type 1} → statement M
 opens-pair-spec =
-    tie.close (tie.spec (λ c. search nothing-opens) (λ c. search needs) (λ c. search one-opens-nothing) (λ c. search needs)
-    (λ c. search needs) (λ c. search second-opens))
+    tie.close (tie.spec (λ c. search nothing-opens) (λ c. search needs) (λ c. search one-opens-nothing)
+    (λ c. search needs) (λ c. search needs) (λ c. search second-opens))
