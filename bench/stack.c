@@ -25,6 +25,7 @@
 static const char *const names[] = {
     "lufanelis_lay",
     "lufanelis_propose",
+    "lufanelis_propose_all",
     "lufanelis_check",
     "lufanelis_step",
     "lufanelis_standing",
@@ -38,6 +39,8 @@ static const char *const names[] = {
     "lufanelis_play_line, 10,000 steps",
     "lufanelis_play_line, show",
     "lufanelis_play_line, 64 rounds",
+    "lufanelis_play_line, 16 pairs",
+    "lufanelis_play_line, 41 pairs",
 };
 
 static uint8_t board[LUFANELIS_LARGEST_BOARD];
@@ -50,6 +53,11 @@ static const uint8_t suspended[] = {255, 1, 255, 2, 255, 3, 255, 1, 255, 255, 2,
 #define FOUR_ROUNDS " (3) (1) () (2)"
 #define SIXTEEN_ROUNDS FOUR_ROUNDS FOUR_ROUNDS FOUR_ROUNDS FOUR_ROUNDS
 static const char rounds[] = "(rounds 1" SIXTEEN_ROUNDS SIXTEEN_ROUNDS SIXTEEN_ROUNDS SIXTEEN_ROUNDS ")";
+#define TEN_PAIRS " (0 0) (1 0) (2 0) (3 0) (4 0) (5 0) (6 0) (7 0) (8 0) (9 0)"
+static const char many_pairs[] = "(propose" TEN_PAIRS TEN_PAIRS TEN_PAIRS TEN_PAIRS " (0 0))";
+static const char pairs_line[] = "(propose (1 -1) (2 -2) (3 -3) (4 -4) (5 -5) (6 -6) (7 -7) (8 -8) (9 -9) (10 -10) (11 -11)"
+                                 " (12 -12) (13 -13) (14 -14) (15 -15) (16 -16))";
+static uint64_t pairs[16];
 static volatile uint64_t sink;
 
 static uint64_t played(const char *text)
@@ -76,6 +84,10 @@ static void calls(void)
     MEASURE(lufanelis_propose(board, sizeof board, 1, rising(1)));
     for (int i = 2; i <= 16; i++)
         lufanelis_propose(board, sizeof board, (uint8_t)i, rising(i));
+    for (int i = 1; i <= 16; i++)
+        pairs[i - 1] = lufanelis_pair((uint8_t)i, rising(i));
+    lufanelis_lay(other, sizeof other, 16, 64);
+    MEASURE(lufanelis_propose_all(other, sizeof other, pairs, 16));
     MEASURE(lufanelis_check(board, sizeof board));
     MEASURE(lufanelis_step(board, sizeof board, 1));
     MEASURE(lufanelis_standing(board, sizeof board, 16));
@@ -94,6 +106,9 @@ static void calls(void)
     lay_other();
     memcpy(board, other, sizeof board);
     MEASURE(played(rounds));
+    lufanelis_lay(board, sizeof board, 16, 64);
+    MEASURE(played(pairs_line));
+    MEASURE(played(many_pairs));
 }
 
 static unsigned long long stack_pointer(pid_t child)

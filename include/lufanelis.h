@@ -10,14 +10,14 @@
  * `memory` stays as it was.
  *
  * What the caller owes: each pointer is not null, also where its length is 0, and points to as many bytes as the length
- * behind it says; bytes that a call may write are lent by one of its pointers only; nobody else touches lent bytes until
- * the call returns.
+ * behind it says, `pairs` to as many numbers, aligned as uint64_t; bytes that a call may write are lent by one of its pointers
+ * only; nobody else touches lent bytes until the call returns.
  *
  * A *figure* is a signed 32-bit number. Figures compare by their size without sign, and of two equal sizes the positive one is
  * larger: 0, -1, 1, -2, 2 rise, and -2,147,483,648 is the largest of all. Stations are numbered from 1, islands from 0.
  *
  * A line that is handed back has fewer than 512 bytes, and zeros after it up to 512; so it always ends in a zero byte, as a
- * string of C does. The functions at the end take answers apart. */
+ * string of C does. The functions at the end take answers apart, and one makes a pair. */
 #ifndef LUFANELIS_H
 #define LUFANELIS_H
 
@@ -28,9 +28,9 @@
 extern "C" {
 #endif
 
-/* Why a call is turned down, in the order in which it is tested; rounds are tested for 18 and 19 behind 11. No call answers
- * with 1 to 5: 1 comes only from the program that plays whole sheets, and 2 to 5 only in what `lufanelis_play_line` prints, as
- * `(refused 4)`. */
+/* Why a call is turned down, in the order in which it is tested; rounds are tested for 18 and 19 behind 11, pairs for 20
+ * between 11 and 12. No call answers with 1 to 5: 1 comes only from the program that plays whole sheets, and 2 to 5 only in
+ * what `lufanelis_play_line` prints, as `(refused 4)`. */
 enum {
     LUFANELIS_ACCEPTED = 0,
     LUFANELIS_TOO_MANY_STEPS = 6,     /* a run of more than 65,536 stations */
@@ -46,7 +46,8 @@ enum {
     LUFANELIS_IS_SPENT = 16,
     LUFANELIS_LINE_TOO_LONG = 17,     /* a shown line of more than 512 bytes; no board has one */
     LUFANELIS_AMID_COLLECT = 18,      /* a station stands in phase 2, 4 or 6 */
-    LUFANELIS_BAD_ROUND = 19          /* a round names more than `most` stations, 0, one above n, or one out of rising order */
+    LUFANELIS_BAD_ROUND = 19,         /* a round names more than `most` stations, 0, one above n, or one out of rising order */
+    LUFANELIS_NAMED_TWICE = 20        /* two pairs have the same station */
 };
 
 /* What a step did. */
@@ -95,6 +96,16 @@ uint8_t lufanelis_lay(uint8_t *board, size_t board_length, uint8_t n, uint8_t k)
 
 /* An idle station proposes a figure. Writes `board`. Answers 0, or the refusal's number (7 to 13). */
 uint8_t lufanelis_propose(uint8_t *board, size_t board_length, uint8_t station, int32_t figure);
+
+/* Several idle stations propose a figure each, all of them or none. `pairs_length` counts pairs; there may be any number of
+ * them, also none. A pair is one number, which `lufanelis_pair` makes:
+ *   bits 0 to 7     the station
+ *   bits 8 to 31    not looked at
+ *   bits 32 to 63   the figure, 32 bits of two's complement
+ * First 20 is asked of all pairs, of stations that are not there too; then the pairs are tried as they stand, each for 12 and
+ * then for 13, and the first that is found is answered. The board afterwards is that of single proposals in any order.
+ * Writes `board`. Answers 0, or the refusal's number (7 to 11, 20, 12, 13). */
+uint8_t lufanelis_propose_all(uint8_t *board, size_t board_length, const uint64_t *pairs, size_t pairs_length);
 
 /* Tests a board. Writes nothing. Answers 0 for a sound board, or the refusal's number (7 to 11). */
 uint8_t lufanelis_check(const uint8_t *board, size_t board_length);
@@ -164,6 +175,12 @@ uint64_t lufanelis_word(const uint8_t *line, size_t line_length);
  * with 10, or with 7 where the memory has fewer than 8 bytes. */
 uint64_t lufanelis_play_line(const uint8_t *line, size_t line_length, size_t laid, uint8_t *memory, size_t memory_length,
                              uint8_t *printed, size_t printed_length);
+
+/* A pair for `lufanelis_propose_all`. */
+static inline uint64_t lufanelis_pair(uint8_t station, int32_t figure)
+{
+    return (uint64_t)(uint32_t)figure << 32 | station;
+}
 
 /* Answers taken apart: plain C beside the proved calls, tried by tests/header. Each function is given an answer of the call
  * that it is named after and hands back the part of it that its own name says, 0 where the answer has none. */

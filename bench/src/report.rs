@@ -28,6 +28,8 @@ enum Column {
     EachTaken(&'static str),
     /// Rounds less the same call with no round, for each of them.
     EachRound(&'static str),
+    /// The figures of all stations less the same call with no figure, for each of them.
+    EachPair(&'static str),
 }
 
 const COLUMNS: [(&str, Column); 10] = [
@@ -56,6 +58,7 @@ impl Column {
             Column::Each(what) => each(what, LONGEST_RUN),
             Column::EachTaken(what) => each(what, contended(n, k).len()),
             Column::EachRound(what) => each(what, MOST_ROUNDS),
+            Column::EachPair(what) => each(what, n as usize),
         }
     }
 }
@@ -138,6 +141,40 @@ fn lines(all: &Numbers) {
     }
 }
 
+/// All stations' figures in one call beside a call for each.
+fn together(all: &Numbers) {
+    println!("\nInstructions of all n figures put in by one call and by n calls, ours (over direct, over values):\n");
+    println!(
+        "| n, K | together | each pair of them | one by one | together over one by one | direct's |\n|{}",
+        "---|".repeat(6)
+    );
+    for (n, k) in SIZES {
+        let of = |engine, what| Column::Whole(what).value(all, engine, n, k);
+        let ratio = |engine| Some(of(engine, "together")? / of(engine, "one by one")?);
+        let (Some(ours), Some(direct)) = (ratio("ours"), ratio("direct")) else { continue };
+        let columns = [Column::Whole("together"), Column::EachPair("together"), Column::Whole("one by one")];
+        let cells = columns.map(|column| format!(" {} |", cell(all, &column, n, k))).concat();
+        println!("| {n}, {k} |{cells} {ours:.2} | {direct:.2} |");
+    }
+}
+
+/// The same in lines, and pairs that are refused. Of direct there is none: it plays no lines of its own.
+fn pair_lines(all: &Numbers) {
+    println!("\nInstructions of a line of pairs and of lines of single proposals:\n");
+    println!("| line | n, K | pairs | single | pairs over single | values' |\n|{}", "---|".repeat(6));
+    for (name, what) in [("n figures, accepted", "accepted"), ("41 pairs, refused", "refused")] {
+        for (n, k) in SIZES.into_iter().filter(|(n, _)| *n > 1) {
+            let of = |engine, form: &str| {
+                Some(raw(all, engine, n, k, &format!("{what}, {form}"))? - raw(all, engine, n, k, "nothing")?)
+            };
+            let pair = |engine| Some((of(engine, "pairs")?, of(engine, "single")?));
+            let (Some((pairs, single)), Some(values)) = (pair("ours"), pair("values")) else { continue };
+            let (ratio, theirs) = (pairs / single, values.0 / values.1);
+            println!("| {name} | {n}, {k} | {} | {} | {ratio:.2} | {theirs:.2} |", told(pairs), told(single));
+        }
+    }
+}
+
 /// A table of which the fields stand ready.
 fn plain(title: &str, head: &str, folder: &str, name: &str) {
     println!("\n{title}\n\n{head}\n|{}", "---|".repeat(head.matches('|').count() - 1));
@@ -155,6 +192,8 @@ pub fn print(folder: &str) {
         table("Instructions, ours (over direct, over values):", &counts);
         kinds(&counts);
         lines(&counts);
+        together(&counts);
+        pair_lines(&counts);
     }
     table("Nanoseconds on this machine, ours (over direct, over values):", &numbers(folder, "times"));
     let head = "| sheet | repeats | instructions of one | values' | the whole sheet | values' | time | values' |";

@@ -3,24 +3,31 @@
 use reference::bytes::length;
 use reference::engine::{Engine, Reference, SHOWN};
 use reference::habits::{self, rising};
+use reference::pairs::{self, Pair};
 
 pub const SIZES: [(u8, u8); 9] = [(1, 2), (1, 8), (1, 64), (3, 2), (3, 8), (3, 64), (16, 2), (16, 8), (16, 64)];
 
 pub const LONGEST_RUN: usize = 65_536;
 
-/// As many rounds as a line holds.
+/// As many rounds as a line holds, and as many pairs.
 pub const MOST_ROUNDS: usize = 81;
+pub const MOST_PAIRS: usize = 41;
 
 /// One call. Nothing is the measuring's own price, which is taken off every other one.
 #[derive(Clone)]
 pub enum Call {
     Nothing,
     Lay(u8, u8),
+    /// Figures put in together, and one call after the other.
+    ProposeAll(Vec<u64>),
+    ProposeEach(Vec<Pair>),
     Step(u8),
     Run(Vec<u8>),
     /// Rounds in which nobody is suspended.
     Rounds(Vec<u8>),
     Line(Vec<u8>),
+    /// One line after the other.
+    Lines(Vec<Vec<u8>>),
     Check,
     Show,
 }
@@ -43,10 +50,13 @@ impl Case {
         match &mut self.call {
             Call::Nothing => 0,
             Call::Lay(n, k) => engine.lay(board, *n, *k) as u64,
+            Call::ProposeAll(words) => engine.propose_all(board, words) as u64,
+            Call::ProposeEach(pairs) => pairs.iter().fold(0, |_, (i, v)| engine.propose(board, *i, *v) as u64),
             Call::Step(station) => engine.step(board, *station),
             Call::Run(stations) => engine.run(board, stations),
             Call::Rounds(named) => engine.rounds(board, 0, named),
             Call::Line(text) => engine.play_line(text, board.len(), board, line),
+            Call::Lines(texts) => texts.iter_mut().fold(0, |_, text| engine.play_line(text, board.len(), board, line)),
             Call::Check => engine.check(board) as u64,
             Call::Show => engine.show(board, line) as u64,
         }
@@ -121,8 +131,7 @@ fn settling_lines(n: u8, k: u8) -> [Case; 2] {
 
 /// Three stations that one suspended station a round keeps from deciding: every step is taken.
 fn circling_lines(k: u8) -> [Case; 2] {
-    let mut board = vec![0; length(3, k)];
-    assert_eq!(Reference.lay(&mut board, 3, k), 0);
+    let mut board = laid(3, k);
     (1..=3).for_each(|station| assert_eq!(Reference.propose(&mut board, station, (station == 3) as i32), 0));
     assert_eq!(Reference.rounds(&mut board, 1, &mut [255, 1, 255, 2, 255]), 3 << 16);
     let turns: String = [1, 2, 2, 3, 1, 2, 3, 1, 3].map(|station| format!(" (times 4 {station})")).concat();
@@ -137,6 +146,47 @@ fn round_lines(n: u8, k: u8) -> Vec<Case> {
         (3, 64) => circling_lines(k).to_vec(),
         _ => vec![],
     }
+}
+
+fn laid(n: u8, k: u8) -> Vec<u8> {
+    let mut board = vec![0; length(n, k)];
+    assert_eq!(Reference.lay(&mut board, n, k), 0);
+    board
+}
+
+/// Every station's figure, of nine characters each, so that a line holds sixteen.
+fn figures(n: u8) -> Vec<Pair> {
+    (1..=n).map(|station| (station, -10_000_000 - station as i32)).collect()
+}
+
+/// All figures in one call, no figure in one, and a call for each station.
+fn together(n: u8, k: u8) -> [Case; 3] {
+    let (board, all) = (laid(n, k), figures(n));
+    let words: Vec<u64> = all.iter().copied().map(pairs::word).collect();
+    let [mut one, mut other] = [board.clone(), board.clone()];
+    assert_eq!(Reference.propose_all(&mut one, &mut words.clone()), 0);
+    all.iter().for_each(|(i, v)| assert_eq!(Reference.propose(&mut other, *i, *v), 0));
+    assert!(one == other, "both leave one board");
+    [
+        Case::new("together", &board, Call::ProposeAll(words)),
+        Case::new("together, none", &board, Call::ProposeAll(vec![])),
+        Case::new("one by one", &board, Call::ProposeEach(all)),
+    ]
+}
+
+/// The same in lines of a sheet; and as many pairs as a line holds, which are refused, beside the shortest single proposal
+/// that is.
+fn pair_lines(n: u8, k: u8) -> Vec<Case> {
+    let (board, all) = (laid(n, k), figures(n));
+    let single = all.iter().map(|(i, v)| format!("(propose {i} {v})").into_bytes()).collect();
+    let many = pairs::line(&(0..MOST_PAIRS).map(|at| (at as u8 % 10, 0)).collect::<Vec<Pair>>());
+    assert_eq!(many.len(), reference::sheet::LONGEST_LINE);
+    vec![
+        Case::new("accepted, pairs", &board, Call::Line(pairs::line(&all).into_bytes())),
+        Case::new("accepted, single", &board, Call::Lines(single)),
+        Case::new("refused, pairs", &board, Call::Line(many.into_bytes())),
+        Case::new("refused, single", &board, Call::Line(b"(propose 0 0)".to_vec())),
+    ]
 }
 
 /// From the middle on every station reads all of A but its last register, so that all but the last station have passed
@@ -178,6 +228,7 @@ pub fn cases(n: u8, k: u8) -> Vec<Case> {
         cases.push(Case::new("check amid", &amid(&middle, n), Call::Check));
     }
     cases.extend(round_lines(n, k));
+    cases.extend(together(n, k).into_iter().chain(pair_lines(n, k)).map(|case| Case { timed: false, ..case }));
     cases.extend(kinds(n, k).into_iter().map(|case| Case { timed: false, ..case }));
     cases
 }

@@ -1,5 +1,5 @@
-/* Tries the functions of include/lufanelis.h that take an answer apart: on both ends of each part with the other parts empty
- * or full, and on answers of the calls themselves; and how figures compare. One source for C99 and for C++.
+/* Tries the functions of include/lufanelis.h that take an answer apart or make a pair: on both ends of each part with the other
+ * parts empty or full, and on answers of the calls themselves; and how figures compare. One source for C99 and for C++.
  * Relies on the header and the archive; tests/compare runs it. Tells what does not hold, and last 'N passed, M failed'. */
 #include <stdio.h>
 #include <stdlib.h>
@@ -155,6 +155,84 @@ static void rise(void)
             HOLDS(stands(2, LUFANELIS_STANDS_GOING, 0, rising[high], 3));
         }
     }
+}
+
+static void pair_of(uint8_t station, int32_t figure, uint64_t expected)
+{
+    uint64_t pair = lufanelis_pair(station, figure);
+
+    HOLDS(pair == expected);
+    HOLDS((uint8_t)(pair & 0xFF) == station && lufanelis_figure((uint32_t)(pair >> 32)) == figure);
+}
+
+static void pairs_made(void)
+{
+    pair_of(0, 0, 0);
+    pair_of(255, 0, BITS(0, 8));
+    pair_of(0, -1, BITS(32, 32));
+    pair_of(255, -1, BITS(0, 8) | BITS(32, 32));
+    pair_of(0, INT32_MAX, BITS(32, 31));
+    pair_of(255, INT32_MAX, BITS(0, 8) | BITS(32, 31));
+    pair_of(0, INT32_MIN, BITS(63, 1));
+    pair_of(255, INT32_MIN, BITS(0, 8) | BITS(63, 1));
+    pair_of(1, -40, UINT64_C(0xFFFFFFD800000001));
+}
+
+static uint8_t propose_two(uint64_t one, uint64_t two)
+{
+    uint64_t both[2];
+
+    both[0] = one;
+    both[1] = two;
+    return lufanelis_propose_all(board, sizeof board, both, 2);
+}
+
+/* All or none, on the board of two stations: what is refused leaves both as they were. */
+static void together(int32_t one, int32_t two)
+{
+    const uint64_t none = 0, first = lufanelis_pair(1, one), second = lufanelis_pair(2, two);
+
+    HOLDS(lufanelis_lay(board, sizeof board, 2, 2) == LUFANELIS_ACCEPTED);
+    HOLDS(lufanelis_propose_all(board, sizeof board, &none, 0) == LUFANELIS_ACCEPTED);
+    HOLDS(lufanelis_propose_all(board, sizeof board, &none, 1) == LUFANELIS_NO_SUCH_STATION);
+    HOLDS(propose_two(none, none) == LUFANELIS_NAMED_TWICE);
+    HOLDS(propose_two(first, first) == LUFANELIS_NAMED_TWICE);
+    HOLDS(propose_two(first, lufanelis_pair(1, two)) == LUFANELIS_NAMED_TWICE);
+    HOLDS(propose_two(lufanelis_pair(255, one), lufanelis_pair(255, two)) == LUFANELIS_NAMED_TWICE);
+    HOLDS(propose_two(first, lufanelis_pair(255, two)) == LUFANELIS_NO_SUCH_STATION);
+    HOLDS(propose_two(lufanelis_pair(3, one), second) == LUFANELIS_NO_SUCH_STATION);
+    HOLDS(stands(1, LUFANELIS_STANDS_IDLE, 0, 0, 0) && stands(2, LUFANELIS_STANDS_IDLE, 0, 0, 0));
+    HOLDS(propose_two(second | BITS(8, 24), first) == LUFANELIS_ACCEPTED);
+    HOLDS(stands(1, LUFANELIS_STANDS_GOING, 0, one, 0) && stands(2, LUFANELIS_STANDS_GOING, 0, two, 0));
+    HOLDS(propose_two(first, second) == LUFANELIS_NOT_IDLE);
+    HOLDS(propose_two(first, none) == LUFANELIS_NOT_IDLE);
+    HOLDS(propose_two(none, first) == LUFANELIS_NO_SUCH_STATION);
+    HOLDS(propose_two(first, first) == LUFANELIS_NAMED_TWICE);
+    HOLDS(lufanelis_propose_all(board, 7, &first, 1) == LUFANELIS_BOARD_TOO_SHORT);
+    HOLDS(lufanelis_propose_all(board, sizeof board - 1, &none, 0) == LUFANELIS_BAD_BOARD_LENGTH);
+}
+
+/* Every number once is none twice; each of them once more is. Nothing of a refused list is put in. */
+static void all_numbers(void)
+{
+    static uint64_t pairs[257];
+    static uint8_t largest[LUFANELIS_LARGEST_BOARD];
+    size_t at;
+
+    for (at = 0; at < 256; at++)
+        pairs[at] = lufanelis_pair((uint8_t)(at + 1), (int32_t)at - 128);
+    HOLDS(lufanelis_lay(largest, sizeof largest, 16, 64) == LUFANELIS_ACCEPTED);
+    HOLDS(lufanelis_propose_all(largest, sizeof largest, pairs, 255) == LUFANELIS_NO_SUCH_STATION);
+    HOLDS(lufanelis_propose_all(largest, sizeof largest, pairs, 256) == LUFANELIS_NO_SUCH_STATION);
+    for (at = 0; at < 256; at++) {
+        pairs[256] = pairs[at];
+        HOLDS(lufanelis_propose_all(largest, sizeof largest, pairs, 257) == LUFANELIS_NAMED_TWICE);
+    }
+    for (at = 1; at <= 16; at++)
+        HOLDS(lufanelis_standing_kind(lufanelis_standing(largest, sizeof largest, (uint8_t)at)) == LUFANELIS_STANDS_IDLE);
+    HOLDS(lufanelis_propose_all(largest, sizeof largest, pairs, 16) == LUFANELIS_ACCEPTED);
+    for (at = 1; at <= 16; at++)
+        HOLDS(lufanelis_standing_figure(lufanelis_standing(largest, sizeof largest, (uint8_t)at)) == (int32_t)at - 129);
 }
 
 /* Two stations that circle until they are spent; the last step of each island is looked at. */
@@ -330,11 +408,17 @@ static void lines(void)
     HOLDS(prints(play("(propose 2 -2147483648)", sizeof board), "(proposed 2 -2147483648)", sizeof board));
     HOLDS(prints(play("(show)", sizeof board), "(stations (1 idle) (2 going 0 -2147483648))", sizeof board));
     HOLDS(prints(play("(show)", 4294967295U), "(stations (1 idle) (2 going 0 -2147483648))", 4294967295U));
+    HOLDS(prints(play("(propose (1 1) (1 1))", sizeof board), "(refused 20)", sizeof board));
+    HOLDS(prints(play("(propose (1 1) (2 1))", sizeof board), "(refused 13)", sizeof board));
+    HOLDS(prints(play("(show)", sizeof board), "(stations (1 idle) (2 going 0 -2147483648))", sizeof board));
     HOLDS(prints(play("(rounds 1 (1) (2) ())", sizeof board), "(played 3 0)", sizeof board));
     HOLDS(prints(play("(rounds 0 (1))", sizeof board), "(refused 19)", sizeof board));
     HOLDS(prints(play("(show)\n", sizeof board), "(refused 4)", sizeof board));
     HOLDS(prints(play("(board 2 3)", sizeof board), "(refused 10)", sizeof board));
     HOLDS(play("(show)", (size_t)4294967295U + 1) == LUFANELIS_NOT_PLAYED);
+    HOLDS(prints(play("(board 2 2)", sizeof board), "(laid 2 2)", sizeof board));
+    HOLDS(prints(play("(propose (2 2147483647) (1 -2147483648))", sizeof board), "(proposed 2)", sizeof board));
+    HOLDS(stands(1, LUFANELIS_STANDS_GOING, 0, INT32_MIN, 0) && stands(2, LUFANELIS_STANDS_GOING, 0, INT32_MAX, 0));
 }
 
 int main(void)
@@ -345,6 +429,10 @@ int main(void)
     alone(INT32_MAX);
     alone(-1);
     rise();
+    pairs_made();
+    together(INT32_MIN, INT32_MAX);
+    together(-1, 0);
+    all_numbers();
     circling();
     runs();
     rounds();

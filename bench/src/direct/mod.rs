@@ -3,10 +3,12 @@
 //! these are the ones that a goal is held against. `bench compare` holds them against `reference` before they are measured.
 
 mod order;
+mod pairs;
 mod rounds;
 mod sound;
 mod step;
 
+use pairs::propose_all;
 use reference::engine::{Engine, Reference, SHOWN};
 use rounds::rounds;
 use sound::checked;
@@ -127,6 +129,10 @@ impl Engine for Direct {
         r[8..12].copy_from_slice(&figure.to_le_bytes());
         r[12..16].copy_from_slice(&figure.to_le_bytes());
         0
+    }
+
+    fn propose_all(&self, board: &mut [u8], pairs: &mut [u64]) -> u8 {
+        propose_all(board, pairs).err().unwrap_or(0)
     }
 
     fn check(&self, board: &mut [u8]) -> u8 {

@@ -1,6 +1,7 @@
 //! Which calls are compared: every kind of call on fresh, reached, sound, damaged and hostile boards, lists of calls and
-//! long runs. `round_batches` has what is made of rounds alone, `count_batches` what is made of counted steps,
-//! `order_batches` what is made of figures beside each other, `line_batches` the lines of sheets.
+//! long runs. `round_batches` has what is made of rounds alone, `pair_batches` what is made of figures put in
+//! together, `count_batches` what is made of counted steps, `order_batches` what is made of figures beside each other,
+//! `line_batches` the lines of sheets.
 
 use crate::boards;
 use crate::bytes::length;
@@ -11,6 +12,8 @@ use crate::figure::EDGES;
 use crate::halts::ROUND_END;
 use crate::lent::{pattern, Lent};
 use crate::lists;
+use crate::made_lists;
+use crate::pairs::word;
 use crate::random::Random;
 use crate::reach;
 
@@ -35,6 +38,7 @@ impl Compare<'_> {
         self.once(seed, Call::Run(&stations), board);
         self.once(seed, Call::Run(&[]), board);
         self.rounds_on(seed, r, n, board);
+        self.pairs_on(seed, r, n, board);
         let sizes = [(n, board.get(1).copied().unwrap_or(2)), r.size(), (r.byte(), r.byte()), (any % 19, any % 67)];
         for (n, k) in sizes {
             self.once(seed, Call::Lay(n, k), board);
@@ -51,17 +55,12 @@ impl Compare<'_> {
 
     /// A list of single calls from a fresh board, both copies driven on.
     pub fn driven(&mut self, seed: u64) {
-        let list = lists::make(seed);
+        let list = made_lists::make(seed);
         let mut r = Random::new(seed);
         let (mut ours, mut theirs) = self.laid(seed, list.n, list.k);
         let mut done = [false; 256];
         for call in &list.calls {
             match *call {
-                lists::Call::Lay(n, k) => self.call(seed, Call::Lay(n, k), &mut ours, &mut theirs),
-                lists::Call::Propose(i, v) => self.call(seed, Call::Propose(i, v), &mut ours, &mut theirs),
-                lists::Call::Rounds(ref halts) => {
-                    self.call(seed, Call::Rounds(halts.most, &halts.to_bytes()), &mut ours, &mut theirs)
-                }
                 // A station that has ended refuses all its further steps; a few of them are enough.
                 lists::Call::Step(i) if done[i as usize] && !r.once_in(16) => 0,
                 lists::Call::Step(i) => {
@@ -69,9 +68,24 @@ impl Compare<'_> {
                     done[i as usize] = matches!(answer & 0xFF, 15 | 16);
                     self.call(seed, Call::Standing(i), &mut ours, &mut theirs)
                 }
+                _ => self.listed(seed, call, &mut ours, &mut theirs),
             };
         }
         self.call(seed, Call::Show(SHOWN), &mut ours, &mut theirs);
+    }
+
+    /// A call of a list as the library has it.
+    fn listed(&mut self, seed: u64, call: &lists::Call, ours: &mut Lent, theirs: &mut Lent) -> u64 {
+        match call {
+            lists::Call::Lay(n, k) => self.call(seed, Call::Lay(*n, *k), ours, theirs),
+            lists::Call::Propose(i, v) => self.call(seed, Call::Propose(*i, *v), ours, theirs),
+            lists::Call::ProposeAll(pairs) => {
+                let words: Vec<u64> = pairs.iter().copied().map(word).collect();
+                self.call(seed, Call::ProposeAll(&words), ours, theirs)
+            }
+            lists::Call::Step(i) => self.call(seed, Call::Step(*i), ours, theirs),
+            lists::Call::Rounds(halts) => self.call(seed, Call::Rounds(halts.most, &halts.to_bytes()), ours, theirs),
+        }
     }
 
     /// A board laid over bytes of any content.
@@ -84,21 +98,17 @@ impl Compare<'_> {
 
     /// A list from a fresh board, its steps put together to runs.
     pub fn listed_runs(&mut self, seed: u64) {
-        let list = lists::make(seed);
+        let list = made_lists::make(seed);
         let (mut ours, mut theirs) = self.laid(seed, list.n, list.k);
         let step = |call: &lists::Call| matches!(call, lists::Call::Step(_));
         for group in list.calls.chunk_by(|a, b| step(a) && step(b)) {
             match group[0] {
-                lists::Call::Lay(n, k) => self.call(seed, Call::Lay(n, k), &mut ours, &mut theirs),
-                lists::Call::Propose(i, v) => self.call(seed, Call::Propose(i, v), &mut ours, &mut theirs),
-                lists::Call::Rounds(ref halts) => {
-                    self.call(seed, Call::Rounds(halts.most, &halts.to_bytes()), &mut ours, &mut theirs)
-                }
                 lists::Call::Step(_) => {
                     let number = |call: &lists::Call| if let lists::Call::Step(i) = call { *i } else { 0 };
                     let stations: Vec<u8> = group.iter().map(number).collect();
                     self.call(seed, Call::Run(&stations), &mut ours, &mut theirs)
                 }
+                _ => self.listed(seed, &group[0], &mut ours, &mut theirs),
             };
         }
     }
@@ -164,10 +174,11 @@ impl Compare<'_> {
             for value in (0..=255).filter(|v| *v != kept) {
                 board[at] = value;
                 let station = r.between(1, n as usize) as u8;
-                let rounds = Call::Rounds(1, &[1, ROUND_END]);
+                let (rounds, pairs) = (Call::Rounds(1, &[1, ROUND_END]), [word((1, 5)), word((station, 5))]);
                 for call in [Call::Check, Call::Step(station), Call::Standing(station), Call::Show(SHOWN), rounds] {
                     self.once(seed, call, &board);
                 }
+                self.once(seed, Call::ProposeAll(&pairs[..station as usize]), &board);
             }
             board[at] = kept;
         }
@@ -177,6 +188,7 @@ impl Compare<'_> {
             for call in [Call::Check, Call::Standing(1), Call::Show(SHOWN), Call::Lay(n, k), Call::Rounds(0, &[])] {
                 self.once(seed, call, &other);
             }
+            self.once(seed, Call::ProposeAll(&[0, 0]), &other);
         }
     }
 
@@ -191,6 +203,9 @@ impl Compare<'_> {
             self.once(0, Call::Check, &board);
             self.once(0, Call::Show(SHOWN), &board);
             self.once(0, Call::Rounds(1, &[1, ROUND_END, ROUND_END]), &board);
+            let pairs = [1, 2, 0, 2].map(|station| word((station, 1)));
+            (0..=4).for_each(|count| self.once(0, Call::ProposeAll(&pairs[..count]), &board));
+            self.once(0, Call::ProposeAll(&pairs[1..]), &board);
         }
     }
 
@@ -203,6 +218,9 @@ impl Compare<'_> {
             self.runs(seed.wrapping_mul(64) + part);
             self.played(seed.wrapping_mul(64) + part);
             self.spelled_out(seed.wrapping_mul(64) + part);
+            self.put_in(seed.wrapping_mul(64) + part);
+            self.in_any_order(seed.wrapping_mul(64) + part);
+            self.all_or_none(seed.wrapping_mul(64) + part);
         }
         for part in 0..6 {
             self.sound_board(seed.wrapping_mul(64) + part);
@@ -220,6 +238,10 @@ impl Compare<'_> {
             self.longest_runs(seed);
             self.short_lists(seed);
             self.many_rounds(seed);
+            self.each_fault(seed);
+            self.each_repeat(seed);
+            self.each_number(seed);
+            self.many_pairs(seed);
             SIZES.iter().for_each(|size| self.every_tail(seed, *size));
             self.most_counted(seed);
             EDGES.iter().for_each(|figure| self.every_pair(seed, *figure));

@@ -24,6 +24,11 @@ pub fn between_collects(r: &mut Random, n: u8, k: u8) -> Vec<u8> {
     drawn(r, n, k, &[0, 1, 1, 3, 3, 5, 5, 7, 8])
 }
 
+/// The same, with every second station idle or so.
+pub fn half_idle(r: &mut Random, n: u8, k: u8) -> Vec<u8> {
+    drawn(r, n, k, &[0, 0, 0, 0, 0, 0, 0, 0, 1, 2, 3, 4, 5, 6, 7, 8])
+}
+
 fn drawn(r: &mut Random, n: u8, k: u8, phases: &[u8]) -> Vec<u8> {
     let width = n as usize;
     let mut f = Fields {

@@ -4,6 +4,7 @@
 use crate::bytes::{fields, length, values, Fields};
 use crate::halts::Halts;
 use crate::model::{Answer, Standing, World};
+use crate::pairs::Pair;
 use crate::refusal::Refusal;
 use crate::sound::sound;
 
@@ -62,6 +63,14 @@ pub fn propose(board: &mut [u8], station: u8, figure: i32) -> Result<(), Refusal
     let mut world = opened(board)?;
     let who = world.place(station)?;
     world.propose(who, figure)?;
+    closed(board, &world);
+    Ok(())
+}
+
+/// "All are accepted or none." With no pair nothing is proposed, and nothing refused.
+pub fn propose_all(board: &mut [u8], pairs: &[Pair]) -> Result<(), Refusal> {
+    let mut world = opened(board)?;
+    world.propose_all(pairs)?;
     closed(board, &world);
     Ok(())
 }

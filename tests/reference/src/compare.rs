@@ -9,6 +9,8 @@ use crate::random::Random;
 pub enum Call<'a> {
     Lay(u8, u8),
     Propose(u8, i32),
+    /// Pairs, each as one number.
+    ProposeAll(&'a [u64]),
     Check,
     Step(u8),
     Standing(u8),
@@ -25,6 +27,8 @@ pub enum Call<'a> {
 #[derive(Default, Debug)]
 pub struct Counts {
     pub calls: u64,
+    /// Those that were put in together.
+    pub pairs: u64,
     pub single_steps: u64,
     pub run_steps: u64,
     pub rounds: u64,
@@ -32,7 +36,14 @@ pub struct Counts {
     pub lines: u64,
     pub words: u64,
     /// How often each refusal was the answer of a call on a board; at 0 the accepted calls.
-    pub refusals: [u64; 20],
+    pub refusals: [u64; 21],
+}
+
+impl Counts {
+    /// The refusals that calls on a board can meet and did not; 17 is none of them.
+    pub fn unmet(&self) -> Vec<usize> {
+        (6..self.refusals.len()).filter(|number| *number != 17 && self.refusals[*number] == 0).collect()
+    }
 }
 
 pub struct Compare<'a> {
@@ -53,16 +64,19 @@ const TOLD: usize = 12;
 struct Beside {
     /// Only to read: a list of stations or of rounds, or a line of a sheet.
     list: Lent,
+    /// Only to read: pairs of stations and figures.
+    pairs: Lent<u64>,
     /// To write: the line that is shown or printed.
     line: Lent,
 }
 
 /// The packed answer.
 fn answer(engine: &dyn Engine, call: Call, board: &mut Lent, beside: &mut Beside) -> u64 {
-    let (board, list, line) = (board.bytes_mut(), beside.list.bytes_mut(), beside.line.bytes_mut());
+    let (board, list, line) = (board.content_mut(), beside.list.content_mut(), beside.line.content_mut());
     match call {
         Call::Lay(n, k) => engine.lay(board, n, k) as u64,
         Call::Propose(i, v) => engine.propose(board, i, v) as u64,
+        Call::ProposeAll(_) => engine.propose_all(board, beside.pairs.content_mut()) as u64,
         Call::Check => engine.check(board) as u64,
         Call::Step(i) => engine.step(board, i),
         Call::Standing(i) => engine.standing(board, i),
@@ -79,25 +93,26 @@ fn answer(engine: &dyn Engine, call: Call, board: &mut Lent, beside: &mut Beside
 fn alters(call: Call, answer: u64, beside: &Beside) -> (bool, bool) {
     let accepted = answer & 0xFF == 0;
     match call {
-        Call::Lay(..) | Call::Propose(..) | Call::Step(_) | Call::Run(_) | Call::Rounds(..) => (accepted, false),
+        Call::Lay(..) | Call::Propose(..) | Call::ProposeAll(_) => (accepted, false),
+        Call::Step(_) | Call::Run(_) | Call::Rounds(..) => (accepted, false),
         Call::Check | Call::Standing(_) | Call::Word(_) => (false, false),
         Call::Show(_) => (false, accepted),
         Call::Line(..) => {
             let made = answer != u64::MAX;
-            (made && !beside.line.bytes().starts_with(b"(refused "), made)
+            (made && !beside.line.content().starts_with(b"(refused "), made)
         }
     }
 }
 
 /// Where two lendings differ, for a reader.
 fn difference(ours: &Lent, theirs: &Lent, our_beside: &Beside, their_beside: &Beside) -> String {
-    let pairs = [
-        ("the board", ours, theirs),
-        ("what is only read", &our_beside.list, &their_beside.list),
-        ("the line", &our_beside.line, &their_beside.line),
+    let first = [
+        ("byte", "the board", ours.difference(theirs)),
+        ("byte", "what is only read", our_beside.list.difference(&their_beside.list)),
+        ("number", "the pairs", our_beside.pairs.difference(&their_beside.pairs)),
+        ("byte", "the line", our_beside.line.difference(&their_beside.line)),
     ];
-    let places =
-        pairs.iter().filter_map(|(name, a, b)| a.difference(b).map(|at| format!("byte {at} of {name} differs")));
+    let places = first.iter().filter_map(|(what, name, at)| at.map(|at| format!("{what} {at} of {name} differs")));
     let told: Vec<String> = places.collect();
     if told.is_empty() {
         "no byte differs".to_string()
@@ -110,6 +125,8 @@ fn name(call: Call) -> String {
     match call {
         Call::Run(stations) if stations.len() > 40 => format!("Run of {} steps", stations.len()),
         Call::Rounds(most, named) if named.len() > 80 => format!("Rounds of {} bytes, at most {most}", named.len()),
+        Call::ProposeAll(words) if words.len() > 20 => format!("ProposeAll of {} pairs", words.len()),
+        Call::ProposeAll(words) => format!("ProposeAll of {words:#x?}").replace("\n", ""),
         Call::Word(text) => format!("Word of {}", text.escape_ascii()),
         Call::Line(text, laid, room) => format!("{} with {laid} laid and room for {room}", text.escape_ascii()),
         _ => format!("{call:?}"),
@@ -156,7 +173,9 @@ impl<'a> Compare<'a> {
             Call::Line(text, _, room) => (text, room),
             _ => (&[], 0),
         };
-        Beside { list: Lent::of_bytes(&mut self.patterns, list), line: Lent::of_size(&mut self.patterns, room) }
+        let r = &mut self.patterns;
+        let pairs = if let Call::ProposeAll(words) = call { Lent::holding(r, words) } else { Lent::default() };
+        Beside { list: Lent::holding(r, list), pairs, line: Lent::of_size(r, room) }
     }
 
     /// One call on two copies of a board. A difference is told, and the copies are made equal again. Answers what the
@@ -170,12 +189,13 @@ impl<'a> Compare<'a> {
         self.count(call, expected);
         let (board, line) = alters(call, expected, &our_beside);
         let kept = (board || before == *ours) && (line || beside.line == our_beside.line);
-        assert!(kept && beside.list == our_beside.list, "the reference altered what must stay: {}", name(call));
+        let read = beside.list == our_beside.list && beside.pairs == our_beside.pairs;
+        assert!(kept && read, "the reference altered what must stay: {}", name(call));
         let same = got == expected && ours == theirs && our_beside == their_beside;
         self.verdict(same, || {
             let bytes = difference(ours, theirs, &our_beside, &their_beside);
             let answers = format!("the engine answers {got:#x}, the reference {expected:#x}");
-            format!("seed {seed}: {}: {answers}, {bytes}, on {}", name(call), hex(before.bytes()))
+            format!("seed {seed}: {}: {answers}, {bytes}, on {}", name(call), hex(before.content()))
         });
         if !same {
             theirs.become_like(ours);
@@ -200,6 +220,7 @@ impl<'a> Compare<'a> {
         match call {
             Call::Step(_) if refusal == 0 => self.counts.single_steps += 1,
             Call::Standing(_) => self.counts.standings += 1,
+            Call::ProposeAll(words) if refusal == 0 => self.counts.pairs += words.len() as u64,
             Call::Run(_) => self.counts.run_steps += answer >> 8 & 0xFF_FFFF,
             Call::Rounds(..) => self.counts.rounds += answer >> 16,
             _ => {}
@@ -208,7 +229,7 @@ impl<'a> Compare<'a> {
 
     /// Two copies of a board, with the same bytes around them.
     pub fn copies(&mut self, board: &[u8]) -> (Lent, Lent) {
-        let ours = Lent::of_bytes(&mut self.patterns, board);
+        let ours = Lent::holding(&mut self.patterns, board);
         let theirs = ours.clone();
         (ours, theirs)
     }

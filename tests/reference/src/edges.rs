@@ -1,6 +1,6 @@
 //! Sheets that stand at the edges which the document names, each with a name.
 
-use crate::{order_edges, round_edges};
+use crate::{order_edges, pair_edges, round_edges};
 
 pub struct Edge {
     pub name: &'static str,
@@ -66,6 +66,7 @@ pub fn edges() -> Vec<Edge> {
     all.extend(starred());
     all.extend(round_edges::edges());
     all.extend(order_edges::edges());
+    all.extend(pair_edges::edges());
     all
 }
 
@@ -194,7 +195,9 @@ fn bytes() -> Vec<Edge> {
     for pattern in [["", ""], ["(", "show)"], ["(show", ")"], ["(show)", ""], ["", "(show)"], ["(steps", "1)"],
         ["(steps ", ")"], ["(steps 1", ")"], ["(steps (times 2", "1))"], ["(propose 3 ", "1)"], ["(board 2 ", ")"],
         ["(rounds", "1)"], ["(rounds ", ")"], ["(rounds 1", "(1))"], ["(rounds 1 (", "))"], ["(rounds 2 (1", "2))"],
-        ["(rounds 1 (1)", "(2))"], ["(rounds 1 ()", ")"]] {
+        ["(rounds 1 (1)", "(2))"], ["(rounds 1 ()", ")"], ["(propose", "(3 1))"], ["(propose (3", "1))"],
+        ["(propose (3 1", "))"], ["(propose (", "1))"], ["(propose (3 ", "1))"], ["(propose (3 1)", "(4 5))"],
+        ["(propose (3 1)", ")"], ["(propose ", "(3 1))"]] {
         let mut sheet = HEAD.as_bytes().to_vec();
         for byte in (0..=255u8).filter(|b| *b != b'\n') {
             sheet.extend(pattern[0].bytes());

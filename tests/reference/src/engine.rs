@@ -5,6 +5,7 @@ use crate::bytes::mark_byte;
 use crate::calls;
 use crate::halts::Halts;
 use crate::model::{Answer, Standing};
+use crate::pairs;
 use crate::refusal::Refusal;
 use crate::sheet;
 
@@ -15,6 +16,8 @@ pub trait Engine {
     /// 0 or the refusal's number.
     fn lay(&self, board: &mut [u8], n: u8, k: u8) -> u8;
     fn propose(&self, board: &mut [u8], station: u8, figure: i32) -> u8;
+    /// Each number is a pair: bits 0–7 the station, 32–63 the figure.
+    fn propose_all(&self, board: &mut [u8], pairs: &mut [u64]) -> u8;
     fn check(&self, board: &mut [u8]) -> u8;
     /// Bits 0–7 refusal, 8–15 kind, 16–23 island or flag, 32–63 figure.
     fn step(&self, board: &mut [u8], station: u8) -> u64;
@@ -80,6 +83,10 @@ impl Engine for Reference {
 
     fn propose(&self, board: &mut [u8], station: u8, figure: i32) -> u8 {
         number(calls::propose(board, station, figure))
+    }
+
+    fn propose_all(&self, board: &mut [u8], pairs: &mut [u64]) -> u8 {
+        number(calls::propose_all(board, &pairs::of_words(pairs)))
     }
 
     fn check(&self, board: &mut [u8]) -> u8 {
@@ -153,6 +160,7 @@ mod linked {
     extern "C" {
         fn lufanelis_lay(board: *mut u8, length: usize, n: u8, k: u8) -> u8;
         fn lufanelis_propose(board: *mut u8, length: usize, station: u8, figure: i32) -> u8;
+        fn lufanelis_propose_all(board: *mut u8, length: usize, pairs: *const u64, count: usize) -> u8;
         fn lufanelis_check(board: *const u8, length: usize) -> u8;
         fn lufanelis_step(board: *mut u8, length: usize, station: u8) -> u64;
         fn lufanelis_standing(board: *const u8, length: usize, station: u8) -> u64;
@@ -181,6 +189,10 @@ mod linked {
 
         fn propose(&self, board: &mut [u8], station: u8, figure: i32) -> u8 {
             unsafe { lufanelis_propose(board.as_mut_ptr(), board.len(), station, figure) }
+        }
+
+        fn propose_all(&self, board: &mut [u8], pairs: &mut [u64]) -> u8 {
+            unsafe { lufanelis_propose_all(board.as_mut_ptr(), board.len(), pairs.as_mut_ptr(), pairs.len()) }
         }
 
         fn check(&self, board: &mut [u8]) -> u8 {

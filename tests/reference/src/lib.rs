@@ -2,8 +2,9 @@
 //!
 //! `model` has the two algorithms of the listing on values: a register is an `Option`, a collect is the list of what
 //! was read. `figure` has the order of figures. `bytes` turns a board of bytes into fields and fields into values, and
-//! back. `sound` lists the clauses of soundness, `halts` has the rounds in which stations are suspended. `calls` are the
-//! library's calls, `sheet` the program's. The rest makes boards and sheets to compare.
+//! back. `sound` lists the clauses of soundness, `halts` has the rounds in which stations are suspended, `pairs` the figures
+//! that are put in together. `calls` are the library's calls, `sheet` the program's. The rest makes boards and sheets to
+//! compare.
 
 pub mod batches;
 pub mod boards;
@@ -19,9 +20,14 @@ pub mod halts;
 pub mod lent;
 pub mod line_batches;
 pub mod lists;
+pub mod made_lists;
 pub mod model;
 pub mod order_batches;
 pub mod order_edges;
+pub mod pair_batches;
+pub mod pair_edges;
+pub mod pair_lists;
+pub mod pairs;
 pub mod program;
 pub mod random;
 pub mod reach;

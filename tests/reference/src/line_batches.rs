@@ -4,7 +4,7 @@ use crate::batches::ROOMS;
 use crate::boards;
 use crate::bytes::length;
 use crate::compare::{Call, Compare};
-use crate::engine::SHOWN;
+use crate::engine::{Engine, SHOWN};
 use crate::lent::pattern;
 use crate::random::Random;
 use crate::{sheet, sheets};
@@ -29,7 +29,7 @@ impl Compare<'_> {
         let harm = size > 0 && r.once_in(3);
         for line in sheet::lines(&sheet) {
             if harm && laid > 0 && r.once_in(10) {
-                ours.bytes_mut()[r.below(laid.min(size))] = r.below(4) as u8;
+                ours.content_mut()[r.below(laid.min(size))] = r.below(4) as u8;
                 laid = if r.once_in(3) { r.below(size + 1) } else { laid };
                 theirs.become_like(&ours);
             }
@@ -53,7 +53,8 @@ impl Compare<'_> {
         let lay = format!("(board {n} {k})");
         let (steps, many) = ("(steps (times 9 1 2 3))", "(steps (times 65537 1))");
         let (rounds, unfit) = ("(rounds 1 (1) ())", "(rounds 0 () (1))");
-        for line in ["(show)", &propose, steps, many, rounds, unfit, &lay, "(show)\n", "show"] {
+        let (pairs, twice) = ("(propose (1 -40))", "(propose (1 5) (9 1) (1 5))");
+        for line in ["(show)", &propose, pairs, twice, steps, many, rounds, unfit, &lay, "(show)\n", "show"] {
             for laid in [0, 1, size / 2, size, size + 1, size + 4096, most, most + 1, usize::MAX] {
                 self.once(seed, Call::Line(line.as_bytes(), laid, SHOWN), &board);
             }
@@ -73,6 +74,13 @@ impl Compare<'_> {
             self.once(seed, Call::Word(&line.repeat(40)), &[]);
         }
     }
+}
+
+/// What a line prints that is played on a whole board.
+pub fn printed(engine: &dyn Engine, line: &str, board: &mut [u8]) -> String {
+    let mut printed = [0; SHOWN];
+    let answer = engine.play_line(&mut line.as_bytes().to_vec(), board.len(), board, &mut printed);
+    String::from_utf8_lossy(&printed[..answer as usize & 0xFFFF]).into_owned()
 }
 
 /// Some lines are lent with a line feed in them, which no sheet's line has.

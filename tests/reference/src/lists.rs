@@ -2,9 +2,9 @@
 
 use crate::bytes::length;
 use crate::calls;
-use crate::habits;
 use crate::halts::Halts;
 use crate::model::Answer;
+use crate::pairs::Pair;
 use crate::random::Random;
 
 #[derive(Clone, PartialEq, Eq, Debug)]
@@ -13,8 +13,9 @@ pub enum Call {
     Lay(u8, u8),
     Propose(u8, i32),
     Step(u8),
-    /// "A sheet's line stands in the list as the single calls it makes": each round's single steps.
+    /// "A sheet's line stands in the list as the single calls it makes": each round's single steps, each pair's proposal.
     Rounds(Halts),
+    ProposeAll(Vec<Pair>),
 }
 
 #[derive(Clone, PartialEq, Eq, Debug)]
@@ -36,106 +37,6 @@ pub struct Deeds {
 /// A sequential run: stations with their figures in turn; answers what each decided.
 pub type Sequential<'a> = &'a dyn Fn(u8, u8, &[(u8, i32)]) -> Vec<Option<i32>>;
 
-/// A list with bursts of steps, in which stations stop for a stretch or for good.
-pub fn make(seed: u64) -> List {
-    let mut r = Random::new(seed);
-    let (n, k) = r.size();
-    let k = if n > 8 { k.min(8) } else { k };
-    let bursts = if r.once_in(30) { 0 } else { r.between(1, 24 * n as usize) };
-    let awake = windows(&mut r, n, bursts);
-    let figures: Vec<i32> = (0..r.between(1, 3)).map(|_| r.figure()).collect();
-    let mut list = List { n, k, calls: vec![] };
-    let by_rounds = r.once_in(3);
-    let whole_turns = by_rounds || r.once_in(2);
-    if n > 1 && r.once_in(4) {
-        circle(&mut r, &mut list);
-    }
-    for station in 1..=n {
-        if r.below(4) > 0 {
-            list.calls.push(Call::Propose(station, r.pick(&figures)));
-        }
-    }
-    for at in 0..bursts {
-        let station = r.between(1, n as usize) as u8;
-        if r.once_in(12) {
-            let figure = r.pick(&figures);
-            list.calls.push(odd(&mut r, n, figure));
-        }
-        let (from, to, gone) = awake[station as usize - 1];
-        if at >= gone || (from..to).contains(&at) {
-            continue;
-        }
-        if by_rounds && r.once_in(n as usize) {
-            list.calls.push(Call::Rounds(rounds(&mut r, n)));
-            continue;
-        }
-        let count = burst(&mut r, n as usize, whole_turns);
-        list.calls.extend(std::iter::repeat_n(Call::Step(station), count));
-    }
-    list
-}
-
-/// Two stations that circle over all islands but the last, or but a few: the document's second run, by turns of a
-/// write and a collect. From there on a decision beside a spent station is near.
-fn circle(r: &mut Random, list: &mut List) {
-    let high = r.between(1, list.n as usize) as u8;
-    let low = high % list.n + 1;
-    let [lower, higher] = r.two_figures();
-    list.calls.push(Call::Propose(high, higher));
-    list.calls.push(Call::Propose(low, lower));
-    let islands = list.k as usize - r.pick(&[0, 1, 1, 1, 2]).min(list.k as usize);
-    for _ in 0..islands {
-        for (station, turns) in [(low, 1), (high, 1), (low, 1), (high, 2), (low, 1)] {
-            let steps = turns * (list.n as usize + 1);
-            list.calls.extend(std::iter::repeat_n(Call::Step(station), steps));
-        }
-    }
-}
-
-/// Per station the stretch in which it is halted, and the burst from which on it is halted for good.
-fn windows(r: &mut Random, n: u8, bursts: usize) -> Vec<(usize, usize, usize)> {
-    let mut out = Vec::new();
-    for _ in 0..n {
-        let from = r.below(bursts + 1);
-        let to = from + r.below(bursts + 1);
-        let gone = if r.once_in(3) { r.below(bursts + 1) } else { usize::MAX };
-        out.push((from, to, gone));
-    }
-    out
-}
-
-/// A few rounds, most of which can be played if nobody stands amid a collect.
-fn rounds(r: &mut Random, n: u8) -> Halts {
-    let longest = if n > 5 { 1 } else { 4 };
-    if r.once_in(10) {
-        habits::odd(r, n, longest, &[0, n + 1, 99])
-    } else {
-        habits::made(r, n, longest)
-    }
-}
-
-fn burst(r: &mut Random, n: usize, whole_turns: bool) -> usize {
-    if whole_turns && !r.once_in(6) {
-        return (n + 1) * r.pick(&[1, 1, 1, 2]);
-    }
-    match r.below(4) {
-        0 => 1,
-        1 => r.between(1, n + 1),
-        2 => r.between(1, 3 * (n + 1)),
-        _ => r.between(1, 3),
-    }
-}
-
-/// Late proposals, second proposals, stations that are not there, layings that are refused.
-fn odd(r: &mut Random, n: u8, figure: i32) -> Call {
-    match r.below(6) {
-        0 => Call::Step(r.pick(&[0, n + 1, 255])),
-        1 => Call::Lay(r.pick(&[0, 17]), 2),
-        2 => Call::Lay(n, r.pick(&[0, 1, 65])),
-        _ => Call::Propose(r.between(0, n as usize + 1) as u8, figure),
-    }
-}
-
 /// The list played by the calls of this package, one at a time on the board that the one before left.
 pub fn play(list: &List) -> Vec<Deeds> {
     let mut board = vec![0; length(list.n, list.k)];
@@ -151,6 +52,7 @@ pub fn play(list: &List) -> Vec<Deeds> {
             }
             Call::Step(i) => step(&mut board, *i, &mut deeds),
             Call::Rounds(halts) => spelled_out(&mut board, halts, &mut deeds),
+            Call::ProposeAll(pairs) => one_by_one(&mut board, pairs, &mut deeds),
         }
     }
     deeds
@@ -170,6 +72,19 @@ fn spelled_out(board: &mut [u8], halts: &Halts, deeds: &mut [Deeds]) {
     }
     halts.single_steps(board[0]).iter().for_each(|station| step(board, *station, deeds));
     assert_eq!(board, whole, "rounds are their single steps");
+}
+
+/// Pairs as their single proposals, all of which are accepted. A refused list makes none.
+fn one_by_one(board: &mut [u8], pairs: &[Pair], deeds: &mut [Deeds]) {
+    let mut whole = board.to_vec();
+    if calls::propose_all(&mut whole, pairs).is_err() {
+        return;
+    }
+    for (station, figure) in pairs {
+        calls::propose(board, *station, *figure).expect("none is refused where all are accepted");
+        deeds[*station as usize - 1].proposed = Some(*figure);
+    }
+    assert_eq!(board, whole, "pairs are their single proposals");
 }
 
 fn note(deeds: &mut Deeds, answer: Answer) {
@@ -246,34 +161,5 @@ mod tests {
         assert!(verdict(&[did(3, Some(5)), did(4, None)]).unwrap_err().starts_with("validity"));
         let halted = Deeds { stepped: false, ..did(4, None) };
         assert!(verdict(&[did(3, Some(4)), halted]).unwrap_err().starts_with("validity"));
-    }
-
-    /// Rounds are played and refused in the made lists, and some of them decide.
-    #[test]
-    fn some_lists_have_rounds() {
-        let mut played = [0; 20];
-        for list in (0..600).map(make) {
-            let mut board = vec![0; length(list.n, list.k)];
-            calls::lay(&mut board, list.n, list.k).expect("the sizes are in range");
-            for call in &list.calls {
-                match call {
-                    Call::Rounds(halts) => {
-                        let answer = calls::rounds(&mut board, halts);
-                        played[answer.map_or_else(|refusal| refusal.number() as usize, |(_, d)| (d > 0) as usize)] += 1;
-                    }
-                    Call::Propose(i, v) => drop(calls::propose(&mut board, *i, *v)),
-                    Call::Step(i) => drop(calls::step(&mut board, *i)),
-                    Call::Lay(..) => {}
-                }
-            }
-        }
-        assert!(played[0] > 100 && played[1] > 100 && played[18] > 100 && played[19] > 10, "{played:?}");
-    }
-
-    #[test]
-    fn some_lists_decide_beside_spent_stations() {
-        let deeds: Vec<Vec<Deeds>> = (0..300).map(|seed| play(&make(seed))).collect();
-        let both = |d: &&Vec<Deeds>| d.iter().any(|s| s.spent) && d.iter().any(|s| s.decided.is_some());
-        assert!(deeds.iter().filter(both).count() > 0);
     }
 }

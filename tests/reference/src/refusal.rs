@@ -1,4 +1,4 @@
-//! Why a call is turned down, in checking order; 18 and 19 are tested after 11.
+//! Why a call is turned down, in checking order; 18 and 19 are tested after 11, and 20 between 11 and 12.
 
 #[derive(Clone, Copy, PartialEq, Eq, Debug)]
 #[repr(u8)]
@@ -22,6 +22,7 @@ pub enum Refusal {
     ShowTooLong = 17,
     AmidCollect = 18,
     BadRound = 19,
+    NamedTwice = 20,
 }
 
 impl Refusal {

@@ -3,9 +3,10 @@
 use crate::boards;
 use crate::bytes::length;
 use crate::compare::{Call, Compare};
-use crate::engine::{Engine, SHOWN};
+use crate::engine::SHOWN;
 use crate::habits;
 use crate::halts::ROUND_END;
+use crate::line_batches;
 use crate::random::Random;
 
 /// The bytes at which a list's meaning changes, for a board of two stations.
@@ -56,9 +57,9 @@ impl Compare<'_> {
         let [mut by_rounds, mut by_line, mut by_run, mut by_steps] = [(); 4].map(|()| board.clone());
         let answer = self.engine.rounds(&mut by_rounds, halts.most, &mut halts.to_bytes());
         let ran = self.engine.run(&mut by_run, &mut halts.single_steps(n));
-        let printed = printed(self.engine, &halts.to_line(), &mut by_line);
+        let printed = line_batches::printed(self.engine, &halts.to_line(), &mut by_line);
         for line in habits::steps_lines(&halts, n) {
-            self::printed(self.engine, &line, &mut by_steps);
+            line_batches::printed(self.engine, &line, &mut by_steps);
         }
         let (played, decided) = (halts.rounds.len() as u64, decided(&by_run));
         let answers = answer == played << 16 | decided << 8 && printed == format!("(played {played} {decided})");
@@ -122,13 +123,6 @@ fn start(r: &mut Random, n: u8, k: u8) -> Vec<u8> {
         }
     }
     board
-}
-
-/// What a line prints that is played on a whole board.
-fn printed(engine: &dyn Engine, line: &str, board: &mut [u8]) -> String {
-    let mut printed = [0; SHOWN];
-    let answer = engine.play_line(&mut line.as_bytes().to_vec(), board.len(), board, &mut printed);
-    String::from_utf8_lossy(&printed[..answer as usize & 0xFFFF]).into_owned()
 }
 
 /// How many records are in phase 7.

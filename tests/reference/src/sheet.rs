@@ -3,6 +3,7 @@
 use crate::bytes::length;
 use crate::calls;
 use crate::halts::Halts;
+use crate::pairs::Pair;
 use crate::refusal::Refusal;
 
 pub const LONGEST_SHEET: usize = 32_768;
@@ -16,6 +17,7 @@ pub const WORDS: [&[u8]; 5] = [b"board", b"propose", b"steps", b"rounds", b"show
 pub enum Form {
     Board(u8, u8),
     Propose(u8, i32),
+    ProposeAll(Vec<Pair>),
     Steps(Vec<Item>),
     Rounds(Halts),
     Show,
@@ -71,6 +73,16 @@ fn small(tree: &Tree) -> Option<u8> {
     number(tree, 0, 99).map(|v| v as u8)
 }
 
+fn figure(tree: &Tree) -> Option<i32> {
+    number(tree, i32::MIN as i64, i32::MAX as i64).map(|v| v as i32)
+}
+
+fn pair(tree: &Tree) -> Option<Pair> {
+    let List(list) = tree else { return None };
+    let [station, value] = list.as_slice() else { return None };
+    Some((small(station)?, figure(value)?))
+}
+
 fn item(tree: &Tree) -> Option<Item> {
     let List(list) = tree else { return small(tree).map(Item::Station) };
     match list.as_slice() {
@@ -96,9 +108,9 @@ fn form(line: &[u8]) -> Option<Form> {
     let (List(list), []) = tree(line)? else { return None };
     match list.as_slice() {
         [Word(b"board"), n, k] => Some(Form::Board(small(n)?, small(k)?)),
-        [Word(b"propose"), i, v] => {
-            let (low, high) = (i32::MIN as i64, i32::MAX as i64);
-            Some(Form::Propose(small(i)?, number(v, low, high)? as i32))
+        [Word(b"propose"), i @ Word(_), v] => Some(Form::Propose(small(i)?, figure(v)?)),
+        [Word(b"propose"), pairs @ ..] if !pairs.is_empty() => {
+            Some(Form::ProposeAll(pairs.iter().map(pair).collect::<Option<_>>()?))
         }
         [Word(b"steps"), list @ ..] => Some(Form::Steps(items(list)?)),
         [Word(b"rounds"), most, list @ ..] => {
@@ -192,6 +204,10 @@ fn called(form: Form, board: &mut [u8]) -> Result<String, Refusal> {
         Form::Propose(i, v) => {
             calls::propose(board, i, v)?;
             Ok(format!("(proposed {i} {v})"))
+        }
+        Form::ProposeAll(pairs) => {
+            calls::propose_all(board, &pairs)?;
+            Ok(format!("(proposed {})", pairs.len()))
         }
         Form::Steps(items) => {
             if expansion(&items) > calls::MOST_STEPS as u128 {

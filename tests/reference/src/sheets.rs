@@ -1,6 +1,7 @@
 //! Sheets made at random: lines that are forms, and lines that are forms no more.
 
 use crate::habits;
+use crate::pair_lists;
 use crate::random::Random;
 use crate::sheet::{LONGEST_LINE, LONGEST_SHEET};
 
@@ -57,6 +58,7 @@ fn form(r: &mut Random, laid: &mut Laid, heavy: bool) -> Vec<u8> {
     match r.below(10 + rounds) {
         0 => odd_board(r, laid),
         1 | 2 => b"(show)".to_vec(),
+        3 if r.once_in(2) => pair_lists::line(r, laid.n as u8),
         3 => propose(r, laid.n),
         4..10 if laid.whole_turns && !r.once_in(40) => format!("(steps {})", turns(r, laid.n)).into_bytes(),
         4..10 => steps(r, laid.n, heavy),
@@ -75,12 +77,19 @@ fn board(r: &mut Random, laid: &mut Laid) -> Vec<u8> {
     format!("(board {n} {k})").into_bytes()
 }
 
-/// Every station's proposal, in any order.
+/// Every station's proposal, in any order: one by one, or in lines of several, some of which have a fault.
 fn proposals(r: &mut Random, n: usize) -> Vec<String> {
     let one_above = r.once_in(4);
-    let figures = habits::figures(r, n as u8, one_above);
-    let mut lines: Vec<String> = (1..).zip(figures).map(|(i, v)| format!("(propose {i} {v})")).collect();
-    r.shuffle(&mut lines);
+    let mut pairs: Vec<(u8, i32)> = (1..).zip(habits::figures(r, n as u8, one_above)).collect();
+    r.shuffle(&mut pairs);
+    if r.once_in(2) {
+        return pairs.iter().map(|(i, v)| format!("(propose {i} {v})")).collect();
+    }
+    let mut lines: Vec<String> = pairs.chunks(r.pick(&[1, 2, 5, 16])).flat_map(pair_lists::lines).collect();
+    if r.once_in(3) {
+        pair_lists::with_fault(r, n as u8, &[0, n as u8 + 1, 99], &mut pairs);
+        lines.extend(pair_lists::lines(&pairs));
+    }
     lines
 }
 
@@ -261,9 +270,9 @@ fn recase(r: &mut Random, line: &mut [u8]) {
 /// A line of the grammar's own pieces in any order, or of any bytes.
 fn made_up(r: &mut Random) -> Vec<u8> {
     #[rustfmt::skip]
-    const PIECES: [&str; 24] = [
+    const PIECES: [&str; 27] = [
         "(", ")", "(", ")", " ", " ", " ", "1", "2", "0", "-1", "99", "board", "propose", "steps", "show", "times",
-        "rounds", "(times 2 ", "(steps ", "(board ", "(rounds 1 ", "()", "(1)",
+        "rounds", "(times 2 ", "(steps ", "(board ", "(rounds 1 ", "()", "(1)", "(propose ", "(1 5)", "(2 -1)",
     ];
     let mut out = Vec::new();
     let any = r.once_in(4);

@@ -7,6 +7,7 @@ use reference::count_batches::SIZES;
 use reference::engine::{Engine, Reference};
 use reference::halts::Halts;
 use reference::model::{Answer, World};
+use reference::pairs::of_words;
 use reference::refusal::Refusal;
 use reference::sound::{most_steps, sound};
 
@@ -258,6 +259,18 @@ impl Faulty {
         Ok(refusal as u64)
     }
 
+    fn put_in(&self, board: &mut [u8], pairs: &mut [u64]) -> Result<u64, u64> {
+        let mut apart = self.opened(board)?;
+        let refusal = Reference.propose_all(&mut apart.bare(), pairs);
+        if refusal == 0 {
+            apart.world.propose_all(&of_words(pairs)).expect("all are idle");
+            let counted = (self.0 == ProposalCounted) as u16;
+            of_words(pairs).iter().for_each(|(station, _)| apart.counts[*station as usize - 1] += counted);
+            self.closed(board, &apart);
+        }
+        Ok(refusal as u64)
+    }
+
     fn stepped(&self, board: &mut [u8], station: u8) -> Result<u64, u64> {
         let mut apart = self.opened(board)?;
         let answer = Reference.step(&mut apart.bare(), station);
@@ -303,6 +316,10 @@ impl Engine for Faulty {
 
     fn propose(&self, board: &mut [u8], station: u8, figure: i32) -> u8 {
         either(self.proposed(board, station, figure)) as u8
+    }
+
+    fn propose_all(&self, board: &mut [u8], pairs: &mut [u64]) -> u8 {
+        either(self.put_in(board, pairs)) as u8
     }
 
     fn check(&self, board: &mut [u8]) -> u8 {

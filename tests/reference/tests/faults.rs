@@ -79,6 +79,11 @@ impl Engine for Faulty {
         answer
     }
 
+    // `pair_faults` tries the faults of figures put in together.
+    fn propose_all(&self, board: &mut [u8], pairs: &mut [u64]) -> u8 {
+        Reference.propose_all(board, pairs)
+    }
+
     fn check(&self, board: &mut [u8]) -> u8 {
         let answer = Reference.check(board);
         if self.is(MendsTheBoard) && answer == 11 {
@@ -173,6 +178,14 @@ fn found(fault: Fault) -> bool {
 #[test]
 fn the_reference_beside_itself() {
     assert!(!found(None));
+}
+
+/// Every refusal that a call on a board can answer comes up, in the first batch those that are rare.
+#[test]
+fn every_refusal_is_met() {
+    let mut compare = compare::Compare::new(&Reference);
+    (0..20).for_each(|seed| compare.batch(seed));
+    assert_eq!(compare.counts.unmet(), Vec::<usize>::new());
 }
 
 #[test]

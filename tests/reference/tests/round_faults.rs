@@ -194,6 +194,10 @@ impl Engine for Faulty {
         Reference.propose(board, station, figure)
     }
 
+    fn propose_all(&self, board: &mut [u8], pairs: &mut [u64]) -> u8 {
+        Reference.propose_all(board, pairs)
+    }
+
     fn check(&self, board: &mut [u8]) -> u8 {
         Reference.check(board)
     }

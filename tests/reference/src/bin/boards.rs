@@ -1,5 +1,6 @@
 //! boards COUNT SEED: every call of the linked engine beside the reference, on made boards, and every byte that it was
-//! lent. A count of 0 goes on for ever, with a line per thousand batches.
+//! lent. A count of 0 goes on for ever, with a line per thousand batches. Where 256 batches or more are asked for, every
+//! refusal must have been met.
 
 use reference::compare::Compare;
 use reference::engine::Linked;
@@ -7,8 +8,11 @@ use reference::engine::Linked;
 fn print(compare: &Compare) {
     let c = &compare.counts;
     println!("{} calls, {} of them standings; {} lines, {} words compared", c.calls, c.standings, c.lines, c.words);
-    println!("steps compared: {} single, {} in runs; rounds: {}", c.single_steps, c.run_steps, c.rounds);
-    let by: Vec<String> = (7..20).map(|r| format!("{r}: {}", c.refusals[r])).collect();
+    println!(
+        "steps compared: {} single, {} in runs; rounds: {}; pairs: {}",
+        c.single_steps, c.run_steps, c.rounds, c.pairs
+    );
+    let by: Vec<String> = (7..c.refusals.len()).map(|r| format!("{r}: {}", c.refusals[r])).collect();
     println!("accepted {}; refused 6: {}, {}", c.refusals[0], c.refusals[6], by.join(", "));
 }
 
@@ -41,6 +45,10 @@ fn main() {
         }
     }
     print(&compare);
+    // The longest runs, and so 6, come once in 256 batches.
+    let unmet = if count < 256 { vec![] } else { compare.counts.unmet() };
+    unmet.iter().for_each(|number| println!("no call was refused with {number}"));
+    compare.failed += unmet.len() as u64;
     println!("{} passed, {} failed", compare.passed, compare.failed);
     std::process::exit((compare.failed > 0) as i32);
 }

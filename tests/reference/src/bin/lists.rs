@@ -3,8 +3,10 @@
 //! `three` adds every board that three stations can come to, some 1.4 million and half a minute.
 
 use reference::halts::Halts;
-use reference::lists::{judge, make, order_for, play, sequential, Call, Deeds, List};
+use reference::lists::{judge, order_for, play, sequential, Call, Deeds, List};
+use reference::made_lists::make;
 use reference::model::Standing;
+use reference::pairs;
 use reference::program;
 use reference::random::Random;
 use reference::reach::{deeds, every_board};
@@ -53,6 +55,7 @@ fn lines(list: &List) -> Vec<(String, Option<Call>)> {
         let text = match &group[0] {
             Call::Lay(n, k) => format!("(board {n} {k})"),
             Call::Propose(i, v) => format!("(propose {i} {v})"),
+            Call::ProposeAll(all) => pairs::line(all),
             // 255 is no number of a sheet; 99 is refused alike.
             Call::Step(i) => format!("(steps (times {} {}))", group.len(), i.min(&99)),
             Call::Rounds(halts) => {
@@ -75,6 +78,11 @@ fn deeds_of(list: &List, lines: &[(String, Option<Call>)], printed: &[&str]) -> 
             None if answer.starts_with("(stations ") => shown = standings(answer)?,
             Some(Call::Propose(i, v)) if answer.starts_with("(proposed ") => {
                 deeds.get_mut(*i as usize - 1)?.proposed = Some(*v)
+            }
+            Some(Call::ProposeAll(all)) if answer.starts_with("(proposed ") => {
+                for (i, v) in all {
+                    deeds.get_mut((*i as usize).checked_sub(1)?)?.proposed = Some(*v);
+                }
             }
             Some(Call::Step(i)) if answer.starts_with("(ran ") && !answer.starts_with("(ran 0 ") => {
                 deeds.get_mut(*i as usize - 1)?.stepped = true

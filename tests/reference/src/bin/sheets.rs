@@ -1,9 +1,9 @@
 //! sheets PROGRAM COUNT SEED: plays made sheets through the program and compares all it prints with the reference, and
-//! plays rounds beside their single steps.
+//! plays rounds beside their single steps, and figures put in together beside single proposals.
 //! A count of 0 goes on for ever.
 
 use reference::sheet::{lines, play};
-use reference::{edges, habits, program, sheets, shorten};
+use reference::{edges, habits, pair_lists, program, sheets, shorten};
 
 /// Shortening runs the program often, so only the first failures are shortened.
 const SHORTENED: u64 = 5;
@@ -15,6 +15,7 @@ struct Tally {
     refused: u64,
     steps: u64,
     rounds: u64,
+    pairs: u64,
 }
 
 impl Tally {
@@ -39,43 +40,52 @@ impl Tally {
             self.refused += line.starts_with(b"(refused") as u64;
             self.steps += first_number(line, b"(ran ");
             self.rounds += first_number(line, b"(played ");
+            self.pairs += together(line);
         }
     }
 
-    /// Rounds beside their single steps, both by the program alone.
-    fn compare_twins(&mut self, seed: u64, program: &str) {
-        let twins = habits::twins(seed);
+    /// Two sheets that must show the same, both by the program alone.
+    fn compare_twins(&mut self, name: &str, program: &str, twins: [Vec<u8>; 2]) {
         let run = |sheet: &Vec<u8>| program::run(program, sheet, program::WHOLE).map(|e| e.printed).unwrap_or_default();
-        let [rounds, steps] = [run(&twins[0]), run(&twins[1])];
-        self.count(&rounds);
-        self.count(&steps);
-        if !habits::shown(&rounds).is_empty() && habits::shown(&rounds) == habits::shown(&steps) {
+        let [one, other] = [run(&twins[0]), run(&twins[1])];
+        self.count(&one);
+        self.count(&other);
+        if !habits::shown(&one).is_empty() && habits::shown(&one) == habits::shown(&other) {
             self.passed += 1;
             return;
         }
         self.failed += 1;
-        println!("twins of seed {seed}: rounds and their single steps do not show the same");
+        println!("{name} do not show the same");
         if self.failed <= SHORTENED {
-            print!("{}{}", String::from_utf8_lossy(&twins[0]), String::from_utf8_lossy(&rounds));
+            print!("{}{}", String::from_utf8_lossy(&twins[0]), String::from_utf8_lossy(&one));
         }
     }
 
     fn print(&self) {
         println!(
-            "{} comparisons, {} lines, {} of them refused, {} steps taken in runs, {} rounds played",
+            "{} comparisons, {} lines, {} of them refused, {} steps taken in runs, {} rounds played, {} pairs put in",
             self.passed + self.failed,
             self.lines,
             self.refused,
             self.steps,
-            self.rounds
+            self.rounds,
+            self.pairs
         );
     }
 }
 
+fn number(digits: &[u8]) -> Option<u64> {
+    std::str::from_utf8(digits).ok()?.parse().ok()
+}
+
 /// The number behind the word of an answer, 0 for another answer.
 fn first_number(line: &[u8], word: &[u8]) -> u64 {
-    let number = line.strip_prefix(word).and_then(|rest| rest.split(|b| *b == b' ').next());
-    number.and_then(|digits| std::str::from_utf8(digits).ok()?.parse().ok()).unwrap_or(0)
+    line.strip_prefix(word).and_then(|rest| number(rest.split(|b| *b == b' ').next()?)).unwrap_or(0)
+}
+
+/// The pairs of an accepted line; the answer to a single proposal has two numbers.
+fn together(line: &[u8]) -> u64 {
+    line.strip_prefix(b"(proposed ").and_then(|rest| number(rest.strip_suffix(b")")?)).unwrap_or(0)
 }
 
 /// Only sheets that fail with every line ended by LF can be shortened line by line.
@@ -98,7 +108,7 @@ fn main() {
         std::process::exit(2);
     };
     let (count, first): (u64, u64) = (count.parse().expect("a number"), seed.parse().expect("a number"));
-    let mut tally = Tally { passed: 0, failed: 0, lines: 0, refused: 0, steps: 0, rounds: 0 };
+    let mut tally = Tally { passed: 0, failed: 0, lines: 0, refused: 0, steps: 0, rounds: 0, pairs: 0 };
     for edge in edges::edges() {
         tally.compare(edge.name, program, &edge.sheet, program::WHOLE);
         tally.compare(edge.name, program, &edge.sheet, 997);
@@ -112,7 +122,10 @@ fn main() {
         let seed = first.wrapping_add(at);
         let piece = if seed % 8 == 0 { seed as usize % 61 + 1 } else { program::WHOLE };
         tally.compare(&format!("seed {seed}"), program, &sheets::sheet(seed), piece);
-        tally.compare_twins(seed, program);
+        let name = format!("rounds of seed {seed} and their single steps");
+        tally.compare_twins(&name, program, habits::twins(seed));
+        let name = format!("pairs of seed {seed} and single proposals");
+        tally.compare_twins(&name, program, pair_lists::twins(seed));
         if (at + 1) % 1000 == 0 {
             print!("to seed {seed}: {} failed; ", tally.failed);
             tally.print();

@@ -54,6 +54,10 @@ impl Engine for Faulty {
         Reference.propose(board, station, figure)
     }
 
+    fn propose_all(&self, board: &mut [u8], pairs: &mut [u64]) -> u8 {
+        Reference.propose_all(board, pairs)
+    }
+
     fn check(&self, board: &mut [u8]) -> u8 {
         self.opened(board).map_or_else(|refusal| refusal as u8, |_| 0)
     }
