@@ -11,6 +11,7 @@ use Rattle.model.specs.Listing.{accepted}
 use Rattle.model.specs.Layout.{boardLength}
 use Rattle.model.specs.Calls.{stations, islands, stepsTaken, lay, propose, step, run}
 use Rattle.model.specs.Rounds.{roundsRefusal, roundsSteps, rounds}
+use Rattle.model.specs.Proposals.{Proposal, AllFit, proposeAll}
 use Rattle.model.specs.Claims.{Passes}
 use Rattle.model.specs.Sheet.{playBoard}
 use Rattle.model.specs.AnyList.{Call, laying, proposing, stepping, called, after, AllAllowed}
@@ -46,6 +47,9 @@ pub record StepCount : Type 0 where
       → roundsRefusal k rs b ≡ none
       → stepsTaken i (rounds k rs b .bytes)
       ≡ stepsTaken i b + stepsIn i (map stepping (roundsSteps (stations b) rs)) b
+  -- proposals put in together add none
+  pub together : (b : List ℕ) → Passes b → (i : ℕ) → 1 ≤ i → i ≤ stations b → (ps : List Proposal) → AllFit ps
+      → stepsTaken i (proposeAll ps b .bytes) ≡ stepsTaken i b
   -- "so it always fits"
   pub fits : (b : List ℕ) → Passes b → (i : ℕ) → 1 ≤ i → i ≤ stations b
       → (stepsTaken i b ≤ 3 * (stations b + 1) * islands b) × (stepsTaken i b ≤ 3264)

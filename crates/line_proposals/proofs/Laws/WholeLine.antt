@@ -14,7 +14,7 @@ use Rattle.model.specs.Grammar.{written, writtenList, writtenPair, PairInRange,
 use Rattle.model.specs.Proposals.{Proposal, AllFit}
 use Rattle.model.specs.Told.{verdict}
 use Rattle.model.proofs.Sheet.Lists.{ListStood, no-more}
-use Rattle.model.proofs.Sheet.Pairs.{pairs-read, pairs-stood}
+use Rattle.model.proofs.Sheet.Pairs.{pairs-read, pairs-stood, pairs-fit}
 use Rattle.model.proofs.Sheet.Readers.{Always}
 use Rattle.model.proofs.Sheet.WrittenBack.{LineStood, line-stood}
 use Rattle.sheet.specs.declared.form.LineForm.the-variants as line-forms
@@ -27,15 +27,11 @@ use Rattle.line_proposals.specs.LinePairs.{LineCounts, LineHas, Proposes
 
 -- ---- pairs that stand at a place of a line, on a sound board
 
-fit : (ps : List Proposal) → Each PairInRange ps → AllFit ps
-unfolding Each PairInRange AllFit
-fit [] h = tt
-fit (p ∷ ps) h = (h .0 .1, fit ps (h .1))
-
 all-fit : (line : List ℕ) (at : ℕ) (h : PairsStand line at) → AllFit (h .pairs)
 unfolding Always ListStood found
 all-fit line at h =
-    fit (h .pairs) (subst (Always (ListStood writtenPair PairInRange (drop at line))) (h .read) (pairs-stood _) .1)
+    pairs-fit (h .pairs)
+    (subst (Always (ListStood writtenPair PairInRange (drop at line))) (h .read) (pairs-stood _) .1)
 
 module _ (line : List ℕ) (at : ℕ) (b : List ℕ) (sound : boardRefusal b none ≡ none) (r : ℕ)
     (says : PairsRefuse line at b r) where

@@ -11,6 +11,8 @@ use Rattle.model.specs.Calls.{propose, step, run}
 use Rattle.model.specs.Rounds.{RoundsAnswer, roundsRefusal, roundsSteps, playedTo, rounds}
 use Rattle.model.specs.Runs as runs
 use Rattle.model.specs.AnyList.{Call, laying, proposing, stepping, called, after, Allowed, AllAllowed}
+use Rattle.model.specs.Proposals.{Proposal, AllFit, proposeAll}
+use Rattle.model.specs.SheetList.{singles}
 use Rattle.model.specs.Claims.{Passes}
 use Rattle.model.specs.StepCount.{stepsBy, stepsIn, StepCount}
 use Rattle.model.proofs.Basics.Tests.{by-test, and-false}
@@ -28,9 +30,10 @@ use Rattle.model.proofs.Board.SoundFacts.{SoundBoard}
 use Rattle.model.proofs.Board.Values.{sound-station}
 use Rattle.model.proofs.Bridge.Single.{Ready, propose-ready, step-sim, on-board}
 use Rattle.model.proofs.Bridge.Lists.{ready-along}
-use Rattle.model.proofs.Bridge.RunCalls.{ran-calls, steps-allowed}
+use Rattle.model.proofs.Bridge.RunCalls.{ran-calls, steps-allowed, singles-leave, singles-allowed}
 use Rattle.model.proofs.Calls.Runs.{runs-count}
 use Rattle.model.proofs.Calls.Rounds.{rounds-pass}
+use Rattle.model.proofs.Calls.Proposals.{together-case}
 
 -- the steps that station index j has taken
 abbrev taken : (n K j : ℕ) → List ℕ → ℕ
@@ -182,6 +185,22 @@ module _ (b : List ℕ) (h : Board b) (i : ℕ) (low : 1 ≤ i) (high : i ≤ st
   unfolding playedTo
   playing k rs e = stepped _ _ (ap (λ (a : After RoundsAnswer). a .bytes) (rounds-pass k rs b e))
 
+-- and proposals put in together, among which no step is
+no-steps : (i : ℕ) (ps : List Proposal) (b : List ℕ) → stepsIn i (singles ps) b ≡ 0
+unfolding stepsIn stepsBy singles
+no-steps i [] b = refl
+no-steps i (p ∷ ps) b = omega (arith, no-steps i ps (called (proposing (p .station) (p .figure)) b))
+
+together : (b : List ℕ) → Board b → (i : ℕ) → 1 ≤ i → i ≤ stations b → (ps : List Proposal) → AllFit ps
+    → stepsTaken i (proposeAll ps b .bytes) ≡ stepsTaken i b
+unfolding stepsTaken
+together b h i low high ps fits =
+    together-case ps b (λ a. stepsTaken i (a .bytes) ≡ stepsTaken i b)
+    (λ e. ap (stepsTaken i) (singles-leave ps b)
+    ∙ after-ready _ _ i low high (singles ps) b (at-head b h) (singles-allowed ps fits b)
+    ∙ omega (arith, no-steps i ps b))
+    (λ k e. refl)
+
 pub step-count : StepCount
 unfolding Passes Fits stepsTaken
 step-count = record {
@@ -190,6 +209,7 @@ step-count = record {
   laid = laid;
   running = λ b p i low high. running b (board-of b none p .0) i low high p;
   playing = λ b p. playing b (board-of b none p .0);
+  together = λ b p. together b (board-of b none p .0);
   fits = λ b p i low high.
       let h = board-of b none p .0 in
       let own : i - 1 < stations b = omega arith in

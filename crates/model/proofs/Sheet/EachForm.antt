@@ -1,7 +1,7 @@
 -- Each form of the sheet once: a form is `board`, or a call on the board that was laid, with all that the sheet's laws
 -- ask of it. Relies on played lines and on what they print; lists of calls, what no line prints and the C interface
 -- rely on `each-form`.
-use Rattle.model.proofs.Kit.{_≡_, refl, sym, ap, _∙_, inl, inr, List, [], _∷_, _++_, map, none, some, ℕ, leb}
+use Rattle.model.proofs.Kit.{_≡_, refl, sym, ap, _∙_, inl, inr, List, [], _++_, map, none, some, ℕ, leb}
 use Rattle.model.proofs.Kit.{length}
 use Rattle.model.proofs.Kit.{take, drop, take-append-drop}
 use Rattle.model.specs.Layout.{boardLength}
@@ -10,20 +10,20 @@ use Rattle.model.specs.Calls as calls
 use Rattle.model.specs.Show as shows
 use Rattle.model.specs.Rounds as byRound
 use Rattle.model.specs.Rounds.{roundsRefusal, roundsSteps}
-use Rattle.model.specs.Proposals.{Proposal, proposalsRefusal, proposeAll}
+use Rattle.model.specs.Proposals.{Proposal, AllFit, proposalsRefusal, proposeAll}
 use Rattle.model.specs.Forms.{Form, board, propose, steps, show, rounds, proposals, expand, Reading, reads}
 use Rattle.model.specs.Forms.{unread}
-use Rattle.model.specs.Bytes.{Each}
-use Rattle.model.specs.Grammar.{PairInRange, InRange}
+use Rattle.model.specs.Grammar.{InRange}
 use Rattle.model.specs.Sheet.{Played, orRefused, proposedText, ranText, playedText, shownText, turnedDown}
 use Rattle.model.specs.Sheet.{togetherText, onBoard, playForm, playReading}
 use Rattle.model.specs.AnyList.{Call, stepping, called, after, Allowed, AllAllowed}
 use Rattle.model.specs.SheetList.{singles, formCalls, callsOf, Stays, NotMet}
 use Rattle.model.proofs.Basics.Tests.{cond-case}
 use Rattle.model.proofs.Calls.Refusals.{Board, refusal-case}
+use Rattle.model.proofs.Sheet.Pairs.{pairs-fit}
 use Rattle.model.proofs.Sheet.WrittenBack.{LineStood}
 use Rattle.model.proofs.Sheet.Printed.{propose-says, ran-says, rounds-say, together-says, show-says}
-use Rattle.model.proofs.Bridge.RunCalls.{steps-allowed}
+use Rattle.model.proofs.Bridge.RunCalls.{steps-allowed, singles-allowed}
 use Rattle.model.proofs.Sheet.PlayedLines.{run-leaves, rounds-leave, together-leaves, board-refused}
 use Rattle.model.proofs.Sheet.PlayedLines.{on-board}
 
@@ -45,12 +45,7 @@ unfolding AllAllowed
 round-calls-allowed b is none = steps-allowed is b
 round-calls-allowed b is (some j) = tt
 
-singles-allowed : (ps : List Proposal) → Each PairInRange ps → (b : List ℕ) → AllAllowed (singles ps) b
-unfolding singles AllAllowed Allowed Each PairInRange
-singles-allowed [] h b = tt
-singles-allowed (p ∷ ps) h b = (h .0 .1, singles-allowed ps (h .1) _)
-
-together-allowed : (ps : List Proposal) → Each PairInRange ps → (b : List ℕ) (r : calls.Refusal)
+together-allowed : (ps : List Proposal) → AllFit ps → (b : List ℕ) (r : calls.Refusal)
     → AllAllowed (elim r [ none ↦ singles ps | some j ↦ [] ]) b
 unfolding AllAllowed
 together-allowed ps h b none = singles-allowed ps h b
@@ -104,7 +99,7 @@ each-form P lays on (proposals ps) = on (proposals ps) (record {
   call = proposeAll ps;
   plays = λ laid m. refl;
   leaves = together-leaves ps;
-  allowed = λ b h. together-allowed ps (h .1) b (proposalsRefusal ps b);
+  allowed = λ b h. together-allowed ps (pairs-fit ps (h .1)) b (proposalsRefusal ps b);
   says = λ b h. together-says b h ps;
 })
 

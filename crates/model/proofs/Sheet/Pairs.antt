@@ -4,7 +4,7 @@ use Rattle.model.proofs.Kit.{_≡_, sym, ap, _∙_, List, [], _∷_, _+
 use Rattle.model.proofs.Kit.{_+_, eqb, eqb-true, length, drop, length-append, w32, SFits, arith}
 use Rattle.model.specs.Bytes.{byte, Each}
 use Rattle.model.specs.Show.{textFrom, text, decimal, signed}
-use Rattle.model.specs.Proposals.{Proposal}
+use Rattle.model.specs.Proposals.{Proposal, AllFit}
 use Rattle.model.specs.Forms.{proposals, found, spaced, numberIn, figureIn, pairIn, pairsIn, same, togetherIn}
 use Rattle.model.specs.Grammar.{writtenList, writtenPair, PairInRange}
 use Rattle.model.proofs.Sheet.Readers.{Always, always-then, always-if}
@@ -69,3 +69,9 @@ pub one-at-least : (ps : List Proposal) → byte (writtenList writtenPair ps ++ 
 unfolding writtenList
 one-at-least [] e = absurd (let z : _≡_ {A = ℕ} 0 40 = e in omega arith)
 one-at-least (p ∷ ps) e = omega arith
+
+-- pairs that a line can name have figures of 32 bits
+pub pairs-fit : (ps : List Proposal) → Each PairInRange ps → AllFit ps
+unfolding Each PairInRange AllFit
+pairs-fit [] h = tt
+pairs-fit (p ∷ ps) h = (h .0 .1, pairs-fit ps (h .1))

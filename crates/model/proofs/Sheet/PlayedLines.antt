@@ -12,7 +12,7 @@ use Rattle.model.specs.Calls.{ranFrom, run, stations}
 use Rattle.model.specs.Calls as calls
 use Rattle.model.specs.Rounds.{roundsRefusal, roundsSteps, playedTo}
 use Rattle.model.specs.Rounds as byRound
-use Rattle.model.specs.Proposals.{Proposal, proposalsRefusal, oneByOne, proposeAll}
+use Rattle.model.specs.Proposals.{Proposal, proposalsRefusal, proposeAll}
 use Rattle.model.specs.Forms.{propose, steps, Items, expand}
 use Rattle.model.specs.Sheet.{Played, refusedText, orRefused, laidText, proposedText, ranText, turnedDown}
 use Rattle.model.specs.Sheet.{playBoard, onBoard}
@@ -25,7 +25,7 @@ use Rattle.model.proofs.Calls.Refusals.{Board, board-passes, unless-pas
 use Rattle.model.proofs.Calls.Runs.{run-is}
 use Rattle.model.proofs.Calls.Rounds.{rounds-case}
 use Rattle.model.proofs.Calls.Proposals.{together-case}
-use Rattle.model.proofs.Bridge.RunCalls.{ran-calls}
+use Rattle.model.proofs.Bridge.RunCalls.{ran-calls, singles-leave}
 
 -- ---- runs, refused or not
 
@@ -95,11 +95,6 @@ rounds-leave k rs b =
     (λ e. rw e (ran-calls (roundsSteps (stations b) rs) b)) (λ j e. rw e)
 
 -- ---- proposals together, refused or not
-
-singles-leave : (ps : List Proposal) (b : List ℕ) → oneByOne ps b ≡ after (singles ps) b
-unfolding oneByOne singles after called
-singles-leave [] b = refl
-singles-leave (p ∷ ps) b = singles-leave ps _
 
 -- the single calls of a line of pairs
 pub together-leaves : (ps : List Proposal) (b : List ℕ)
