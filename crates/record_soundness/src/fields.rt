@@ -3,13 +3,12 @@
 // Relies on the layout; steps and records rely on it.
 ghost use mathlib.Core.Path.{_≡_};
 ghost use mathlib.Core.Bool.{_||_};
+ghost use Prim.Native.Nat.{_<_};
 ghost use lib.Dec.{eqb};
-ghost use Rattle.model.specs.Bytes.{part, zeros};
 ghost use Rattle.model.specs.Layout.{layRecord};
-ghost use Rattle.model.specs.Sound.{flagKnown, idleZero, collecting, collectZero, bestIslandZero, bestZero, seenKnown, fieldsSound};
+ghost use Rattle.model.specs.Sound.{flagKnown, collecting, collectZero, bestIslandZero, bestZero, seenKnown, fieldsSound};
 ghost use Rattle.record_soundness.specs.Groups.{laid, boundsKept, alwaysKept};
 use model::Record;
-use model::phase::IDLE;
 use model::phase::READ_A;
 use model::phase::READ_B;
 use model::phase::READ_M;
@@ -53,48 +52,6 @@ fn flag_sound(f: Record) -> bool
         return one_or_two(f.flag);
     }
     f.flag == 0
-}
-
-fn bytes_zero(f: Record) -> bool
-    ensures { λ r. ⌜ r ≡ zeros (part 0 6 (layRecord f)) ⌝ }
-{
-    if f.phase != IDLE {
-        return false;
-    }
-    if f.position != 0 {
-        return false;
-    }
-    if f.island != 0 {
-        return false;
-    }
-    if f.seen != 0 {
-        return false;
-    }
-    if f.highest != 0 {
-        return false;
-    }
-    f.flag == 0
-}
-
-fn idle_sound(f: Record) -> bool
-    ensures { λ r. ⌜ r ≡ laid idleZero f ⌝ }
-{
-    if f.phase != IDLE {
-        return true;
-    }
-    if !bytes_zero(f) {
-        return false;
-    }
-    if f.proposal != 0 {
-        return false;
-    }
-    if f.carried != 0 {
-        return false;
-    }
-    if f.best != 0 {
-        return false;
-    }
-    f.steps == 0
 }
 
 pub fn is_collecting(f: Record) -> bool
@@ -159,18 +116,18 @@ fn seen_known(f: Record) -> bool
 
 // The clauses on what a record holds whether it collects or not.
 fn always_sound(f: Record, n: usize, k: usize) -> bool
+    requires { ⌜ 0 < f .phase ⌝ }
     ensures { λ r. ⌜ r ≡ alwaysKept n k f ⌝ }
 {
     if !bounds_sound(f, n, k) {
         return false;
     }
-    if !flag_sound(f) {
-        return false;
-    }
-    idle_sound(f)
+    flag_sound(f)
 }
 
+// Of a station that is not idle: of one that is, every byte is tested, in records.
 pub fn fields_sound(f: Record, n: usize, k: usize) -> bool
+    requires { ⌜ 0 < f .phase ⌝ }
     ensures { λ r. ⌜ r ≡ fieldsSound n k (f .phase) (layRecord f) ⌝ }
 {
     if !always_sound(f, n, k) {

@@ -3,7 +3,7 @@
 ghost use mathlib.Core.Path.{_≡_};
 ghost use Prim.Native.Nat.{_+_, _≤_, _<_};
 ghost use lib.ListN.{length};
-ghost use Rattle.model.specs.Bytes.{every};
+ghost use Rattle.model.specs.Bytes.{part, zeros, every};
 ghost use Rattle.model.specs.Layout.{boardLength, recordAt, recordOf};
 ghost use Rattle.model.specs.Sound.{recordSound};
 use crate::fields::fields_sound;
@@ -11,12 +11,31 @@ use crate::own::own_sound;
 use crate::steps::steps_sound;
 use codec::places::record_offset;
 use codec::records::record_at;
+use figures::zeros::zero_cell;
 use figures::zeros::zero_pair;
+use model::phase::IDLE;
+
+// "Idle is all zero": that is all that is asked of such a record.
+fn idle_sound(s: &[u8], at: usize) -> bool
+    requires { ⌜ at + 24 ≤ length (now s) ⌝ }
+    ensures { λ r. ⌜ r ≡ zeros (part at 24 (now (s .entry))) ⌝ }
+{
+    if !zero_cell(s, at) {
+        return false;
+    }
+    if !zero_cell(s, at + 8) {
+        return false;
+    }
+    zero_cell(s, at + 16)
+}
 
 fn record_sound(s: &[u8], at: usize, n: usize, k: usize, i: usize) -> bool
-    requires { ⌜ (length (now s) ≡ boardLength n k) × (n ≤ 16) × (k ≤ 64) × (i < n) × (at ≡ recordAt n k i) ⌝ }
+    requires { ⌜ (length (now s) ≡ boardLength n k) × (n ≤ 16) × (k ≤ 64) × (0 < k) × (i < n) × (at ≡ recordAt n k i) ⌝ }
     ensures { λ r. ⌜ r ≡ recordSound n k i (now (s .entry)) (recordOf n k i (now (s .entry))) ⌝ }
 {
+    if s[at] == IDLE {
+        return idle_sound(s, at);
+    }
     if !zero_pair(s, at + 6) {
         return false;
     }
@@ -34,7 +53,7 @@ fn record_sound(s: &[u8], at: usize, n: usize, k: usize, i: usize) -> bool
 }
 
 pub fn records_sound(s: &[u8], n: usize, k: usize) -> bool
-    requires { ⌜ (length (now s) ≡ boardLength n k) × (n ≤ 16) × (k ≤ 64) × (0 < n) ⌝ }
+    requires { ⌜ (length (now s) ≡ boardLength n k) × (n ≤ 16) × (k ≤ 64) × (0 < n) × (0 < k) ⌝ }
     ensures { λ r. ⌜ r ≡ every n (λ i. recordSound n k i (now (s .entry)) (recordOf n k i (now (s .entry)))) ⌝ }
 {
     let mut at = record_offset(n, k, 0);

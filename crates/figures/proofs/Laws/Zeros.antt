@@ -1,7 +1,9 @@
 -- Lists of zeros: by their bytes, by their number, and as a figure's bytes.
 -- Relies on the laws on numbers of the crate model; the tests of zero bytes and zero fields rely on it.
 use Rattle.model.proofs.Kit.{_≡_, refl, sym, ap, _∙_, Bool, true, false, _&&_, List, [], _∷_, _++_, ℕ, zero, suc, _+_}
-use Rattle.model.proofs.Kit.{_≤_, _*_, eq-eqb, ne-eqb, eqb, ℤ, length, w32, ofZ, SFits, ℕ-discrete, add-zero, arith}
+use Rattle.model.proofs.Kit.{_-_, _≤_, _*_, not, eq-eqb, ne-eqb, eqb, ℤ, length, w32, ofZ, SFits, ℕ-discrete, add-zero}
+use Rattle.model.proofs.Kit.{arith}
+use borrow.Author.Tests.{not-true, not-false}
 use mir.Facts.{fits-ofZ}
 use Rattle.model.specs.Bytes.{byte, number, part, zeros}
 use Rattle.model.specs.Figure.{figureBytes}
@@ -44,16 +46,11 @@ pub word-zero : (x : ℕ) (l : List ℕ) → x ≡ number l → eqb x 0 ≡ zero
 word-zero x l e = ap (λ (y : ℕ). eqb y 0) e ∙ sym (zeros-number l)
 
 -- one byte that is not zero
-pub not-zero : (l : List ℕ) (i : ℕ) → (byte l i ≡ 0 → ⊥) → false ≡ zeros l
+not-zero : (l : List ℕ) (i : ℕ) → (byte l i ≡ 0 → ⊥) → false ≡ zeros l
 unfolding zeros
 not-zero [] i h = absurd (h refl)
 not-zero (x ∷ xs) zero h = ap (λ (t : Bool). t && zeros xs) (sym (ne-eqb x 0 h))
 not-zero (x ∷ xs) (suc i) h = sym (and-false (eqb x 0)) ∙ ap (λ (t : Bool). eqb x 0 && t) (not-zero xs i h)
-
-pub six-zero : (a b c d e g : ℕ) → a ≡ 0 → b ≡ 0 → c ≡ 0 → d ≡ 0 → e ≡ 0 → eqb g 0 ≡ zeros (a ∷ b ∷ c ∷ d ∷ e ∷ g ∷ [])
-unfolding zeros
-six-zero a b c d e g ha hb hc hd he =
-    and-true (eqb g 0) ∙ sym (λ i. zeros (ha i ∷ hb i ∷ hc i ∷ hd i ∷ he i ∷ g ∷ []))
 
 -- two bytes at a place
 module _ (b : List ℕ) (at : ℕ) (h : at + 2 ≤ length b) where
@@ -73,3 +70,18 @@ module _ (b : List ℕ) (at : ℕ) (h : at + 2 ≤ length b) where
 pub zeros-join : (b : List ℕ) (at k m : ℕ)
     → zeros (part at (k + m) b) ≡ zeros (part at k b) && zeros (part (at + k) m b)
 zeros-join b at k m = ap zeros (part-join at k m b) ∙ zeros-append (part at k b) (part (at + k) m b)
+
+-- as the code tests them: r is the first of the two, and t the second, which begins at `from`
+module _ (b : List ℕ) (at len k : ℕ) (r : Bool) (first : r ≡ zeros (part at k b)) where
+  pub first-fails : not r ≡ true → k ≤ len → false ≡ zeros (part at len b)
+  first-fails e h =
+      let whole : len ≡ k + (len - k) = omega arith in
+      sym (ap (λ (x : ℕ). zeros (part at x b)) whole ∙ zeros-join b at k (len - k)
+      ∙ ap (λ (x : Bool). x && zeros (part (at + k) (len - k) b)) (sym first ∙ not-true r e))
+
+  pub second-decides : not r ≡ false → (t : Bool) (from m : ℕ) → t ≡ zeros (part from m b) → from ≡ at + k → len ≡ k + m
+      → t ≡ zeros (part at len b)
+  second-decides e t from m second q whole =
+      second ∙ ap (λ (x : ℕ). zeros (part x m b)) q
+      ∙ sym (ap (λ (x : ℕ). zeros (part at x b)) whole ∙ zeros-join b at k m
+      ∙ ap (λ (x : Bool). x && zeros (part (at + k) m b)) (sym first ∙ not-false r e))

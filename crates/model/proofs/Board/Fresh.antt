@@ -53,11 +53,11 @@ module _ (n K : ℕ) where
   unfolding registerPart
   fresh-empty a h j l = part-fresh (registerAt n a j) 8 (omega (arith, head-first n K a j)) (register-fits n K a j h l)
 
-  zero-sound : 0 < n → 0 < K → (i : ℕ) → recordSound n K i (freshBoard n K) (replicate 24 0) ≡ true
+  pub zero-sound : 0 < n → 0 < K → (i : ℕ) (b : List ℕ) → recordSound n K i b (replicate 24 0) ≡ true
   unfolding recordSound fieldsSound phaseKnown positionInside islandInside bestInside flagKnown restZero idleZero
       collectZero bestIslandZero bestZero seenKnown collecting implies zeros part readRecord recordValue ofPhase
       ownWritten ownPassed stepsKept mostSteps number
-  zero-sound hn hK i = simp (lt-ltb 0 n hn, lt-ltb 0 K hK)
+  zero-sound hn hK i b = simp (lt-ltb 0 n hn, lt-ltb 0 K hK)
 
   pub fresh-sound : 0 < n → 0 < K → SoundBoard n K (freshBoard n K)
   unfolding headSound
@@ -70,5 +70,5 @@ module _ (n K : ℕ) where
     registers = λ a h j l. subst⁻¹ (λ (r : List ℕ). T (registerTest K a r)) (fresh-empty a h j l) (empty-sound a);
     records = λ j h.
         subst⁻¹ (λ (r : List ℕ). T (recordSound n K j (freshBoard n K) r)) (fresh-zero j h)
-        (true-T _ (zero-sound hn hK j));
+        (true-T _ (zero-sound hn hK j (freshBoard n K)));
   }

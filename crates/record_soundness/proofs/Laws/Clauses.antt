@@ -1,63 +1,37 @@
 -- The clauses on a record's fields, where they speak of figures.
 -- Relies on the laws of zeros; the proofs of fields rely on it.
-use Rattle.model.proofs.Kit.{_≡_, refl, sym, ap, _∙_, Bool, true, false, cond, _&&_, List, [], _∷_, _++_, ℕ, _≤_, _<_}
-use Rattle.model.proofs.Kit.{le-leb, lt-leb, lt-ltb, le-ltb, eq-eqb, eqb, leb, ltb, replicate, w32, ofZ, Fits, SFits}
-use mir.Syntax.{w16}
+use Rattle.model.proofs.Kit.{_≡_, refl, sym, ap, _∙_, Bool, true, false, cond, _&&_, ℕ, _≤_, _<_}
+use Rattle.model.proofs.Kit.{ne-eqb, arith, le-leb, lt-leb, lt-ltb, le-ltb, eqb, leb, ltb, w32, ofZ, SFits}
 use Rattle.model.specs.declared.Record.{Record}
 use Rattle.model.specs.Bytes.{digits, part, zeros}
 use Rattle.model.specs.Figure.{figureBytes}
-use Rattle.model.specs.Layout.{layRecord, tail}
-use Rattle.model.specs.Sound.{phaseKnown, positionInside, islandInside, bestInside, idleZero, restZero, seenKnown}
-use Rattle.record_soundness.specs.Groups.{boundsKept}
-use Rattle.model.proofs.Basics.Numbers.{number-digits}
-use Rattle.figures.proofs.Laws.Zeros.{and-true, zeros-append, zeros-number, figure-zero}
-use Rattle.record_soundness.proofs.Laws.Chains.{implied, fail2, fail3, fail4, pass}
+use Rattle.model.specs.Layout.{layRecord}
+use Rattle.model.specs.Sound.{phaseKnown, positionInside, islandInside, bestInside, flagKnown, idleZero, restZero}
+use Rattle.model.specs.Sound.{seenKnown}
+use Rattle.record_soundness.specs.Groups.{laid, boundsKept, alwaysKept}
+use Rattle.figures.proofs.Laws.Zeros.{and-true, figure-zero}
+use Rattle.record_soundness.proofs.Laws.Chains.{implies-no, fail2, fail3, fail4, pass}
 
 pub best-zero : (f : Record) → SFits w32 (f .best) → eqb (ofZ w32 (f .best)) 0 ≡ zeros (part 16 4 (layRecord f))
 unfolding layRecord part figureBytes digits
 best-zero f h = figure-zero (f .best) h
 
-steps-zero : (f : Record) → Fits w16 (f .steps) → eqb (f .steps) 0 ≡ zeros (digits 2 (f .steps))
-steps-zero f h =
-    ap (λ (x : ℕ). eqb x 0) (sym (number-digits 2 (f .steps) (h .fits))) ∙ sym (zeros-number (digits 2 (f .steps)))
-
--- the bytes of the fields of one byte
-abbrev pub bytes : Record → List ℕ
-bytes f = part 0 6 (layRecord f)
-
-module _ (f : Record) where
-  record-zero : SFits w32 (f .proposal) → SFits w32 (f .carried) → SFits w32 (f .best) → Fits w16 (f .steps)
-      → zeros (bytes f) && eqb (ofZ w32 (f .proposal)) 0 && eqb (ofZ w32 (f .carried)) 0 && eqb (ofZ w32 (f .best)) 0
-      && eqb (f .steps) 0
-      ≡ zeros (layRecord f)
-  unfolding layRecord zeros part
-  record-zero hv hx hy hs =
-      (λ i. head i && figure-zero (f .proposal) hv i && figure-zero (f .carried) hx i && figure-zero (f .best) hy i
-      && steps-zero f hs i)
-      ∙ and-true _ ∙ sym whole
-    where
-      head : zeros (bytes f) ≡ zeros (bytes f ++ 0 ∷ 0 ∷ [])
-      head = and-true (zeros (bytes f)) ∙ sym (zeros-append (bytes f) (0 ∷ 0 ∷ []))
-
-      whole : zeros
-          (bytes f ++ (0 ∷ 0 ∷ []) ++ figureBytes (f .proposal) ++ figureBytes (f .carried) ++ figureBytes (f .best)
-          ++ digits 2 (f .steps) ++ replicate tail 0)
-          ≡ zeros (bytes f ++ 0 ∷ 0 ∷ []) && zeros (figureBytes (f .proposal)) && zeros (figureBytes (f .carried))
-          && zeros (figureBytes (f .best)) && zeros (digits 2 (f .steps)) && true
-      whole = simp zeros-append
-
-  pub idle-form : (r : Bool) → SFits w32 (f .proposal) → SFits w32 (f .carried) → SFits w32 (f .best)
-      → Fits w16 (f .steps) → f .phase ≡ 0
-      → r ≡ zeros (bytes f) && eqb (ofZ w32 (f .proposal)) 0 && eqb (ofZ w32 (f .carried)) 0
-      && eqb (ofZ w32 (f .best)) 0 && eqb (f .steps) 0
-      → r ≡ idleZero (f .phase) (layRecord f)
-  unfolding idleZero
-  idle-form r hv hx hy hs e q = implied r _ _ (q ∙ record-zero hv hx hy hs) (eq-eqb (f .phase) 0 e)
+-- a station that has proposed is not idle
+pub busy : (f : Record) → 0 < f .phase → true ≡ idleZero (f .phase) (layRecord f)
+unfolding idleZero
+busy f h = implies-no _ _ (ne-eqb (f .phase) 0 (λ e. omega arith))
 
 -- the layout leaves zeros in the bytes that no field has
 pub rest-laid : (f : Record) → restZero (f .phase) (layRecord f) ≡ true
 unfolding restZero layRecord part zeros figureBytes digits
 rest-laid f = refl
+
+-- behind the bounds the flag decides
+pub flags-decide : (n K : ℕ) (f : Record) → 0 < f .phase → (r : Bool) → boundsKept n K f ≡ true
+    → r ≡ laid flagKnown f → r ≡ alwaysKept n K f
+flags-decide n K f h r bounds flag =
+    flag ∙ and-true _ ∙ and-true _
+    ∙ (λ i. sym bounds i && laid flagKnown f && sym (rest-laid f) i && busy f h i)
 
 -- each phase has its limit of what was seen
 pub seen-limit : (f : Record) (k : ℕ) → k ≡ cond (eqb (f .phase) 2) 1 (cond (eqb (f .phase) 4) 2 3)

@@ -1,9 +1,10 @@
 -- A record of a board by the tests that the code makes: the bytes without a field, the fields, the steps, the own
 -- register.
 -- Relies on the layout, the model's laws of a record's parts and codec's of reads; the proofs of records rely on it.
-use Rattle.model.proofs.Kit.{_≡_, sym, ap, subst, _∙_, Bool, true, false, _&&_, List, [], _∷_, ℕ, suc, _+_, _≤_, _<_}
+use Rattle.model.proofs.Kit.{_≡_, refl, sym, ap, subst, _∙_, Bool, true, false, _&&_, List, [], _∷_, ℕ, suc, _+_, _≤_}
+use Rattle.model.proofs.Kit.{_<_}
 use Rattle.model.proofs.Kit.{le-ltb, leb→le, eq-eqb, eqb, lit≤, T, length, replicate, w8, w64, Fits, mul-le-mul}
-use Rattle.model.proofs.Kit.{lt-of-not-le, arith}
+use Rattle.model.proofs.Kit.{not, lit<, add-zero, lt-of-not-le, arith}
 use native.Mathlib.Decide.{decLe}
 use Rattle.model.specs.declared.Record.{Record}
 use Rattle.model.specs.Bytes.{byte, number, part, zeros}
@@ -14,12 +15,13 @@ use Rattle.model.specs.Sound.{collectZero, bestIslandZero, bestZero, seenKnown}
 use Rattle.model.specs.Sound.{fieldsSound, ownWritten, ownPassed, stepsKept, recordSound}
 use Rattle.model.proofs.Board.Codec.{station, length-record, steps-back}
 use Rattle.model.proofs.Basics.Numbers.{Bytes, number-digits}
-use Rattle.model.proofs.Basics.Tests.{and-false, and-l, and-r, and-i, true-T, no-T, zeros-is, implies-use}
+use Rattle.model.proofs.Basics.Tests.{both, and-false, and-l, and-r, and-i, true-T, no-T, zeros-is, implies-use}
 use Rattle.model.proofs.Basics.Parts.{part-Bytes}
-use Rattle.model.proofs.Basics.Splices.{length-part}
+use Rattle.model.proofs.Basics.Splices.{length-part, byte-part}
 use Rattle.model.proofs.Board.Canon.{laid-fields}
 use Rattle.model.proofs.Board.Places.{record-inside}
-use Rattle.figures.proofs.Laws.Zeros.{and-true}
+use Rattle.model.proofs.Board.Fresh.{zero-sound}
+use Rattle.figures.proofs.Laws.Zeros.{and-true, first-fails, second-decides}
 use Rattle.codec.proofs.Laws.Reads.{part-part}
 
 -- ---- one clause that fails
@@ -83,6 +85,24 @@ unfolding Bytes
 all-bytes [] h = tt
 all-bytes (x ∷ xs) h = (h 0 .fits, all-bytes xs (λ j. h (suc j)))
 
+-- ---- a record's 24 bytes as three cells, each with what a test of it answered
+module _ (b : List ℕ) (at : ℕ) (first second : Bool) (one : first ≡ zeros (part at 8 b)) where
+  pub first-cell : not first ≡ true → false ≡ zeros (part at 24 b)
+  first-cell e = first-fails b at 24 8 first one e (omega arith)
+
+  module _ (two : second ≡ zeros (part (at + 8) 8 b)) (e : not first ≡ false) where
+    pub second-cell : not second ≡ true → false ≡ zeros (part at 24 b)
+    second-cell q =
+        second-decides b at 24 8 first one e false (at + 8) 16
+        (first-fails b (at + 8) 16 8 second two q (omega arith)) refl (omega arith)
+
+    pub third-cell : not second ≡ false → (third : Bool) → third ≡ zeros (part (at + 16) 8 b)
+        → third ≡ zeros (part at 24 b)
+    third-cell q third three =
+        second-decides b at 24 8 first one e third (at + 8) 16
+        (second-decides b (at + 8) 16 8 second two q third (at + 16) 8 three (omega arith) (omega arith)) refl
+        (omega arith)
+
 -- ---- the record of station index i, which stands at `at`
 pub record Placed (n k i at : ℕ) (b : List ℕ) : Type 0 where
   pub len : length b ≡ boardLength n k
@@ -96,6 +116,37 @@ module _ {n k i at : ℕ} {b : List ℕ} (p : Placed n k i at b) where
   here : part at 24 b ≡ recordOf n k i b
   unfolding recordOf
   here = ap (λ (x : ℕ). part x 24 b) (p .place)
+
+  -- of an idle station nothing but the zeros is asked
+  pub idle-form : 0 < k → byte b at ≡ 0 → (r : Bool) → r ≡ zeros (part at 24 b)
+      → r ≡ recordSound n k i b (recordOf n k i b)
+  unfolding recordSound fieldsSound idleZero
+  idle-form positive e r h = h ∙ ap zeros here ∙ both _ _ made used
+    where
+      phase : byte (recordOf n k i b) 0 ≡ 0
+      phase =
+          ap (λ (l : List ℕ). byte l 0) (sym here) ∙ byte-part at 24 b 0 (lit< tt)
+          ∙ ap (byte b) (add-zero at) ∙ e
+
+      made : T (zeros (recordOf n k i b)) → T (recordSound n k i b (recordOf n k i b))
+      made t =
+          true-T _
+          (ap (recordSound n k i b)
+          (zeros-is (recordOf n k i b) t
+          ∙ ap (λ (x : ℕ). replicate x 0) (ap length (sym here) ∙ length-part at 24 b record-place))
+          ∙ zero-sound n k (omega (arith, p .station)) positive i b)
+
+      used : T (recordSound n k i b (recordOf n k i b)) → T (zeros (recordOf n k i b))
+      used t =
+          implies-use (eqb (byte (recordOf n k i b) 0) 0) (zeros (recordOf n k i b)) (search (and-l, and-r) depth 14)
+          (true-T _ (eq-eqb (byte (recordOf n k i b) 0) 0 phase))
+
+  pub not-idle : (byte b at ≡ 0 → ⊥) → (f : Record) → f ≡ readRecord (part at 24 b) → 0 < f .phase
+  unfolding readRecord
+  not-idle ne f read =
+      let phase : f .phase ≡ byte b at
+      = ap (λ (x : Record). x .phase) read ∙ byte-part at 24 b 0 (lit< tt) ∙ ap (byte b) (add-zero at) in
+      lt-of-not-le (λ (h : f .phase ≤ 0). ne (sym phase ∙ omega arith))
 
   fails : fieldsSound n k (byte (recordOf n k i b) 0) (recordOf n k i b) ≡ false
       → false ≡ recordSound n k i b (recordOf n k i b)
