@@ -9,8 +9,7 @@ use Rattle.model.specs.Calls.{After, RunAnswer, ran, notRun}
 use Rattle.model.specs.Bytes.{number, digits, part, splice, zeros, every, implies}
 use Rattle.model.specs.Figure.{figure, figureBytes, sameFigure, above, figures}
 use Rattle.model.specs.Listing.{array, placeArray, placeColumn, accepted, outcome, entry, proposed, stay, onward}
-use Rattle.model.specs.Listing.{finish, ended, larger, pairAbove, add, see, move}
-use Rattle.model.specs.Listing.{flagOf, flagNumber}
+use Rattle.model.specs.Listing.{finish, ended, larger, pairAbove, add, see, move, flagOf, flagNumber}
 use Rattle.model.specs.Layout.{boardLength, rowOf, registerAt, recordAt, freshBoard, readRegister, layRegister}
 use Rattle.model.specs.Layout.{registerFields, registerValue, seenNumber}
 use Rattle.model.specs.Layout.{bestIsland, bestFigure, seenOf, writePhase, flagByte, readRecord, layRecord}
@@ -23,8 +22,7 @@ use Rattle.model.specs.Sound.{seenKnown, sameRegister}
 use Rattle.model.specs.Sound.{ownWritten, ownSeen, ownPassed, turnsBefore, presentPass, islandOf, mostSteps}
 use Rattle.model.specs.Sound.{stepsKept, fieldsSound, recordSound, sound}
 use Rattle.model.specs.Calls.{unless, ranges, shapeRefusal, stations, islands, boardRefusal, stationRefusal}
-use Rattle.model.specs.Calls.{stationAt}
-use Rattle.model.specs.Calls.{unlessRefused, lay, putRecord}
+use Rattle.model.specs.Calls.{stationAt, unlessRefused, lay, putRecord}
 use Rattle.model.specs.Calls.{putRegister, notIdle, propose, notGoing, access, stepped, stepOn, step, ranFrom}
 use Rattle.model.specs.Calls.{run}
 use Rattle.model.specs.Runs.{after}

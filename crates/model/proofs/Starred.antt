@@ -2,12 +2,10 @@
 -- Relies on the definitions alone.
 use Rattle.model.proofs.Kit.{refl}
 use Rattle.model.specs.Starred.{Starred, Holds, rise, rows, sheet, asLines, layIn}
-use Rattle.model.specs.Bytes.{number, digits, part, splice, zeros, every, count, names, implies, onFirst}
-use Rattle.model.specs.Bytes.{endedBy}
+use Rattle.model.specs.Bytes.{number, digits, part, splice, zeros, every, count, names, implies, onFirst, endedBy}
 use Rattle.model.specs.Figure.{figure, figureBytes, sameFigure, above, figures}
 use Rattle.model.specs.Listing.{array, placeArray, placeColumn, accepted, outcome, entry, proposed, stay, onward}
-use Rattle.model.specs.Listing.{finish, ended, larger, pairAbove, add, see, move}
-use Rattle.model.specs.Listing.{flagOf, flagNumber}
+use Rattle.model.specs.Listing.{finish, ended, larger, pairAbove, add, see, move, flagOf, flagNumber}
 use Rattle.model.specs.Layout.{boardLength, rowOf, registerAt, recordAt, freshBoard, readRegister, layRegister}
 use Rattle.model.specs.Layout.{registerFields, registerValue, seenNumber}
 use Rattle.model.specs.Layout.{bestIsland, bestFigure, seenOf, writePhase, flagByte, readRecord, layRecord}
@@ -38,8 +36,7 @@ use Rattle.model.specs.Forms.{pairIn, pairsIn, singleIn, togetherIn}
 use Rattle.model.specs.Forms.{upToStop, firstWord, wordPlace, formIn, one, tooDeep, orFour, readLine}
 use Rattle.model.specs.Sheet.{refusedText, orRefused, laidText, proposedText, ranText, playedText, shownText}
 use Rattle.model.specs.Sheet.{togetherText, turnedDown}
-use Rattle.model.specs.Sheet.{playBoard, onBoard, playForm, playReading, playLine, printed}
-use Rattle.model.specs.Sheet.{playSheet}
+use Rattle.model.specs.Sheet.{playBoard, onBoard, playForm, playReading, playLine, printed, playSheet}
 
 pub starred : Starred
 unfolding Starred Holds rise rows sheet asLines layIn number digits part splice zeros every implies figure figureBytes

@@ -1,8 +1,7 @@
 -- Lists of bytes: numbers of several bytes, tests that compute, and the one way in which bytes change.
 -- Relies on Kit; every other definition relies on it.
 use Rattle.model.specs.Kit.{Bool, true, false, not, _&&_, _||_, cond, List, [], _∷_, _++_, ℕ, zero, suc, _+_, _*_}
-use Rattle.model.specs.Kit.{_/_}
-use Rattle.model.specs.Kit.{_%_, eqb, length, getD, take, drop}
+use Rattle.model.specs.Kit.{_/_, _%_, eqb, length, getD, take, drop}
 
 -- byte i of a list, and 0 past its end
 abbrev pub byte : List ℕ → ℕ → ℕ

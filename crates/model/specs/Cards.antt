@@ -9,8 +9,7 @@ use Rattle.model.specs.Listing.{nothing, seen, Stage, writing, reading, 
 use Rattle.model.specs.Listing.{Station, idle, active, Answer, read, went, decided, spent, refused, Move}
 use Rattle.model.specs.Listing.{placeArray, placeColumn, stay, ended, finish, see, move}
 use Rattle.model.specs.Layout.{boardLength, registerOf}
-use Rattle.model.specs.Calls.{After, ran, stations, islands, stationAt, putMove, lay, propose}
-use Rattle.model.specs.Calls.{step, run}
+use Rattle.model.specs.Calls.{After, ran, stations, islands, stationAt, putMove, lay, propose, step, run}
 use Rattle.model.specs.Runs.{after}
 
 -- ---- a card by the move that it makes, where `step` makes the listing's; it may look at every register of the

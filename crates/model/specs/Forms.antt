@@ -1,5 +1,5 @@
 -- A line of a run sheet: 01's grammar as a reader that computes, and refusals 2 to 4.
--- Relies on bytes, figures and texts; the sheet relies on it. Nothing here knows the board.
+-- Relies on bytes, figures, pairs and texts; the sheet relies on it. Nothing here knows the board.
 use Rattle.model.specs.Kit.{Bool, true, false, not, cond, _&&_, _||_, List, [], _∷_, _++_, Option, none, some, ℕ}
 use Rattle.model.specs.Kit.{zero, suc, _+_, _*_, _-_, eqb, leb, ltb, length, drop, pos, negsuc}
 use Rattle.model.specs.Bytes.{byte}

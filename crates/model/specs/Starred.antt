@@ -1,7 +1,6 @@
 -- The starred runs of 01 as one table: a row is what the definitions give and what 01 says they give.
 -- Relies on the sheet, the laying and the order; proofs/Starred.antt proves the one statement `Starred`.
-use Rattle.model.specs.Kit.{Bool, true, _&&_, List, [], _∷_, _++_, none, some, ℕ, length, replicate, pos}
-use Rattle.model.specs.Kit.{negsuc}
+use Rattle.model.specs.Kit.{Bool, true, _&&_, List, [], _∷_, _++_, none, some, ℕ, length, replicate, pos, negsuc}
 use mathlib.Core.Path.{_≡_}
 use Prim.Native.String.{String}
 use Rattle.model.specs.Figure.{Figure, figure, above}

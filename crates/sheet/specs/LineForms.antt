@@ -4,8 +4,7 @@
 -- line rely on it.
 use Prim.Native.Nat.{ℕ}
 use lib.ListN.{length}
-use Rattle.model.specs.Forms.{Form, board, propose, steps, show, rounds, proposals, expand, Reading, reads}
-use Rattle.model.specs.Forms.{unread}
+use Rattle.model.specs.Forms.{Form, board, propose, steps, show, rounds, proposals, expand, Reading, reads, unread}
 use Rattle.halts.specs.Needs.{needs}
 use Rattle.sheet.specs.declared.form.LineForm.{LineForm}
 use Rattle.sheet.specs.declared.form.LineForm.the-variants.{Board, Propose, Steps, Show, Rounds, Proposals}

@@ -10,9 +10,7 @@ use Rattle.model.specs.Calls.{After, Refusal, unless, boardRefusal}
 use Rattle.model.specs.Show.{text, textFrom, shownLine, shownAs, Shown, show}
 use Rattle.model.specs.Told.{verdict, shownTold}
 use Rattle.model.specs.Forms.{Form, WordRow, boardRow, proposeRow, stepsRow, showRow, roundsRow, wordRows, rowIn}
-use Rattle.model.specs.Forms.{firstWord}
-use Rattle.model.specs.Forms.{formWord}
-use Rattle.model.specs.Forms.{Reading, reads, unread, readLine}
+use Rattle.model.specs.Forms.{firstWord, formWord, Reading, reads, unread, readLine}
 use Rattle.model.specs.Sheet as model
 use Rattle.model.specs.Sheet.{turnedDown, playBoard, onBoard, playForm, playReading, playLine}
 use Rattle.model.proofs.Basics.Tests.{cond-case}

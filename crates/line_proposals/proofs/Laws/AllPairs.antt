@@ -16,8 +16,7 @@ use Rattle.proposing.specs.Tried.{Tried, TriesNext}
 use Rattle.proposing.proofs.Laws.Trying.{tried-none}
 use Rattle.line_proposals.specs.declared.PairAt.{PairAt}
 use Rattle.line_proposals.specs.LinePairs.{PairStands, PairRead, PairIs, PairsStand, PairsTaken, OfPairs}
-use Rattle.line_proposals.specs.LinePairs.{PairsPut}
-use Rattle.line_proposals.specs.LinePairs.{PairsRefuse}
+use Rattle.line_proposals.specs.LinePairs.{PairsPut, PairsRefuse}
 
 pub pair-kind : Kind Proposal
 pair-kind = record {

@@ -1,8 +1,7 @@
 -- One pair as it stands in a line: its number, and its figure behind a space.
 -- Relies on the model's written pairs and on numbers and figures that are known to stand at a place; the proof of
 -- `pair_at` relies on it.
-use Rattle.model.proofs.Kit.{_≡_, sym, ap, subst, _∙_, List, _∷_, _++_, ℕ, _+_, _<_, length, drop, w8, w64, Fits}
-use Rattle.model.proofs.Kit.{arith}
+use Rattle.model.proofs.Kit.{_≡_, sym, ap, subst, _∙_, List, _∷_, _++_, ℕ, _+_, _<_, length, drop, w8, w64, Fits, arith}
 use Rattle.model.specs.Show.{signed}
 use Rattle.model.specs.Figure.{Figure}
 use Rattle.model.specs.Forms.{found, spaced, numberIn, figureIn, pairIn}

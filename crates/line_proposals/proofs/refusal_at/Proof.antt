@@ -1,8 +1,7 @@
 -- `refusal_at` meets its contract: the loop keeps what the pairs passed are refused with.
 use Rattle.model.proofs.Kit.{_-_, length, arith}
 use Rattle.line_proposals.proofs.Laws.AllPairs.{TriedAt, tried-begun, tried-inside, tried-size, tried-all}
-use Rattle.line_proposals.proofs.Laws.AllPairs.{tried-stands}
-use Rattle.line_proposals.proofs.Laws.AllPairs.{tried-less, tried-more}
+use Rattle.line_proposals.proofs.Laws.AllPairs.{tried-stands, tried-less, tried-more}
 use Rattle.line_proposals.proofs.refusal_at.Statement.{statement}
 use Rattle.line_proposals.proofs.refusal_at.Tie as tie
 

@@ -2,15 +2,13 @@
 -- Relies on the sheet's Readings, on what a read line holds and on the call by the round; the proof of
 -- `play_rounds_line` relies on it.
 use Rattle.model.proofs.Kit.{_≡_, refl, sym, ap, subst, _∙_, List, [], _∷_, _++_, none, ℕ, _+_, _≤_}
-use Rattle.model.proofs.Kit.{length, drop, length-append}
-use Rattle.model.proofs.Kit.{arith}
+use Rattle.model.proofs.Kit.{length, drop, length-append, arith}
 use Rattle.model.specs.declared.Verdict.{Verdict}
 use Rattle.model.specs.declared.Verdict.the-variants as verdicts
 use Rattle.model.specs.declared.RoundsVerdict.the-variants as byRound
 use Rattle.model.specs.Calls.{boardRefusal}
 use Rattle.model.specs.Forms as forms
-use Rattle.model.specs.Forms.{found, numberIn, roundsIn, upToStop, firstWord, wordPlace, reads}
-use Rattle.model.specs.Forms.{readLine}
+use Rattle.model.specs.Forms.{found, numberIn, roundsIn, upToStop, firstWord, wordPlace, reads, readLine}
 use Rattle.model.specs.Grammar.{written, writtenList, writtenRound, InRange}
 use Rattle.model.specs.Rounds.{decidedOn}
 use Rattle.model.specs.Show.{text, textFrom, decimal}

@@ -1,8 +1,7 @@
 -- Each form of the sheet once: a form is `board`, or a call on the board that was laid, with all that the sheet's laws
 -- ask of it. Relies on played lines and on what they print; lists of calls, what no line prints and the C interface
 -- rely on `each-form`.
-use Rattle.model.proofs.Kit.{_≡_, refl, sym, ap, _∙_, inl, inr, List, [], _++_, map, none, some, ℕ, leb}
-use Rattle.model.proofs.Kit.{length}
+use Rattle.model.proofs.Kit.{_≡_, refl, sym, ap, _∙_, inl, inr, List, [], _++_, map, none, some, ℕ, leb, length}
 use Rattle.model.proofs.Kit.{take, drop, take-append-drop}
 use Rattle.model.specs.Layout.{boardLength}
 use Rattle.model.specs.Calls.{After, lay, run}
@@ -24,8 +23,7 @@ use Rattle.model.proofs.Sheet.Pairs.{pairs-fit}
 use Rattle.model.proofs.Sheet.WrittenBack.{LineStood}
 use Rattle.model.proofs.Sheet.Printed.{propose-says, ran-says, rounds-say, together-says, show-says}
 use Rattle.model.proofs.Bridge.RunCalls.{steps-allowed, singles-allowed}
-use Rattle.model.proofs.Sheet.PlayedLines.{run-leaves, rounds-leave, together-leaves, board-refused}
-use Rattle.model.proofs.Sheet.PlayedLines.{on-board}
+use Rattle.model.proofs.Sheet.PlayedLines.{run-leaves, rounds-leave, together-leaves, board-refused, on-board}
 
 -- What the sheet's laws ask of a form that is a call on the board that was laid.
 pub record OnLaid (f : Form) : Type 1 where

@@ -7,16 +7,14 @@ use Rattle.model.specs.Figure.{Figure}
 use Rattle.model.specs.Layout.{boardLength}
 use Rattle.model.specs.Listing.{refused}
 use Rattle.model.specs.Calls.{After, Refusal, RunAnswer, ran, notRun, unless, boardRefusal, unlessRefused, lay}
-use Rattle.model.specs.Calls.{step, stepOn}
-use Rattle.model.specs.Calls.{ranFrom, run, stations}
+use Rattle.model.specs.Calls.{step, stepOn, ranFrom, run, stations}
 use Rattle.model.specs.Calls as calls
 use Rattle.model.specs.Rounds.{roundsRefusal, roundsSteps, playedTo}
 use Rattle.model.specs.Rounds as byRound
 use Rattle.model.specs.Proposals.{Proposal, proposalsRefusal, proposeAll}
 use Rattle.model.specs.Forms.{propose, steps, Items, expand}
 use Rattle.model.specs.Sheet.{Played, refusedText, orRefused, laidText, proposedText, ranText, turnedDown}
-use Rattle.model.specs.Sheet.{playBoard, onBoard}
-use Rattle.model.specs.Sheet.{playForm}
+use Rattle.model.specs.Sheet.{playBoard, onBoard, playForm}
 use Rattle.model.specs.AnyList.{Call, stepping, called, after}
 use Rattle.model.specs.SheetList.{singles}
 use Rattle.model.specs.Runs.{taken, passed, answers}

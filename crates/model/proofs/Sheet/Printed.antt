@@ -8,8 +8,7 @@ use Rattle.model.specs.Bytes.{byte}
 use Rattle.model.specs.Figure.{Figure}
 use Rattle.model.specs.Listing.{Station, idle, active}
 use Rattle.model.specs.Calls.{After, Refusal, RunAnswer, ran, notRun, unless, boardRefusal, stationRefusal}
-use Rattle.model.specs.Calls.{stationAt, proposalRefusal}
-use Rattle.model.specs.Calls.{notIdle, unlessRefused, step, ranFrom, run}
+use Rattle.model.specs.Calls.{stationAt, proposalRefusal, notIdle, unlessRefused, step, ranFrom, run}
 use Rattle.model.specs.Calls as calls
 use Rattle.model.specs.Show.{text, textFrom, shownLine, shownAs}
 use Rattle.model.specs.Show as shows

@@ -7,8 +7,7 @@ use Rattle.model.specs.Show.{textFrom, text, decimalIn, decimal, signed}
 use Rattle.model.specs.Forms.{Item, station, times, Items, done, next, board, propose, steps, show, found, spaced}
 use Rattle.model.specs.Forms.{digit, rounds, roundsRow, proposals, singleIn}
 use Rattle.model.specs.Forms.{behind, timesIn, itemIn, itemsIn, same, closing, boardRow, proposeRow, stepsRow}
-use Rattle.model.specs.Forms.{showRow}
-use Rattle.model.specs.Forms.{wordRows, rowIn, upToStop, firstWord, wordPlace, formIn}
+use Rattle.model.specs.Forms.{showRow, wordRows, rowIn, upToStop, firstWord, wordPlace, formIn}
 use Rattle.model.specs.Grammar.{writtenItem, writtenItems, written, AtLeastOne, ItemInRange, ItemsInRange}
 use Rattle.model.specs.Grammar.{writtenRound, writtenPair, writtenList, InRange, ReadsWritten}
 use Rattle.model.proofs.Sheet.Numbers.{Stops, then-found, digit-not, decimal-begins, number-decimal}

@@ -7,8 +7,7 @@ use Rattle.model.specs.Bytes.{byte, Each}
 use Rattle.model.specs.Calls.{Refusal, unless}
 use Rattle.model.specs.Show.{textFrom, text, decimal, signed}
 use Rattle.model.specs.Forms.{times, Items, done, next, Form, board, propose, steps, show, Read, found, andThen}
-use Rattle.model.specs.Forms.{spaced}
-use Rattle.model.specs.Forms.{numberIn, figureIn, behind, timesIn, itemIn, itemsIn}
+use Rattle.model.specs.Forms.{spaced, numberIn, figureIn, behind, timesIn, itemIn, itemsIn}
 use Rattle.model.specs.Forms.{same, closing, WordRow, boardRow, proposeRow, stepsRow, showRow, wordRows, rowIn}
 use Rattle.model.specs.Forms.{upToStop, rounds, roundsIn, roundsRow, proposals, pairsIn, singleIn, togetherIn}
 use Rattle.model.specs.Forms.{firstWord, wordPlace, formIn, tooDeep, Reading, reads, unread, orFour, readLine}

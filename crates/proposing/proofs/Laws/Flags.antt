@@ -1,8 +1,7 @@
 -- The set of the stations that were named: none, and one more.
 -- Relies on the definition of the set; the proofs of those who name stations rely on it.
 use Rattle.model.proofs.Kit.{_≡_, refl, sym, ap, _∙_, Bool, true, false, _||_, List, [], ℕ}
-use Rattle.model.proofs.Kit.{eqb, eqb-true, eqb-false, length, replicate, set, length-set, getD, w8, Fits}
-use Rattle.model.proofs.Kit.{arith}
+use Rattle.model.proofs.Kit.{eqb, eqb-true, eqb-false, length, replicate, set, length-set, getD, w8, Fits, arith}
 use lib.ListN.{getD-replicate}
 use lib.Seq.{getD-set-same, getD-set-other}
 use Rattle.model.specs.Bytes.{names}

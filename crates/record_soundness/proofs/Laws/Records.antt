@@ -2,8 +2,7 @@
 -- register.
 -- Relies on the layout, the model's laws of a record's parts and codec's of reads; the proofs of records rely on it.
 use Rattle.model.proofs.Kit.{_≡_, refl, sym, ap, subst, _∙_, Bool, true, false, _&&_, List, [], _∷_, ℕ, suc, _+_, _≤_}
-use Rattle.model.proofs.Kit.{_<_}
-use Rattle.model.proofs.Kit.{le-ltb, leb→le, eq-eqb, eqb, lit≤, T, length, replicate, w8, w64, Fits, mul-le-mul}
+use Rattle.model.proofs.Kit.{_<_, le-ltb, leb→le, eq-eqb, eqb, lit≤, T, length, replicate, w8, w64, Fits, mul-le-mul}
 use Rattle.model.proofs.Kit.{not, lit<, add-zero, lt-of-not-le, arith}
 use native.Mathlib.Decide.{decLe}
 use Rattle.model.specs.declared.Record.{Record}

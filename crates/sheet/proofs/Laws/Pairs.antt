@@ -2,15 +2,13 @@
 -- Relies on the laws of lists and forms and the lexer's Places and Spaced; the proofs of src/pairs.rt and of the form
 -- rely on it.
 use Rattle.model.proofs.Kit.{_≡_, refl, sym, ap, _∙_, Bool, true, false, cond, List, [], none, ℕ, _+_, _-_, _≤_, _<_, ℤ}
-use Rattle.model.proofs.Kit.{eq-eqb}
-use Rattle.model.proofs.Kit.{ne-eqb, eqb, length, drop, drop-of-length-le, getD, w8, Fits, arith}
+use Rattle.model.proofs.Kit.{eq-eqb, ne-eqb, eqb, length, drop, drop-of-length-le, getD, w8, Fits, arith}
 use lib.Seq.{getD-drop}
 use lib.ListN.{List·getD-eq-default}
 use Rattle.model.specs.Bytes.{byte}
 use Rattle.model.specs.Proposals.{Proposal}
 use Rattle.model.specs.Forms as forms
-use Rattle.model.specs.Forms.{found, andThen, spaced, pairIn, pairsIn, singleIn, togetherIn, proposeRow}
-use Rattle.model.specs.Forms.{orFour}
+use Rattle.model.specs.Forms.{found, andThen, spaced, pairIn, pairsIn, singleIn, togetherIn, proposeRow, orFour}
 use Rattle.lexer.specs.declared.number.FoundNumber.{FoundNumber}
 use Rattle.lexer.specs.declared.number.FoundNumber.the-variants as numbers
 use Rattle.lexer.specs.declared.number.FoundFigure.{FoundFigure}

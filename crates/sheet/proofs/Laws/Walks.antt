@@ -1,8 +1,7 @@
 -- A list of things of one kind that stands in a line, walked along once more: which thing stands next at each place.
 -- Relies on the model's written lists; the play of rounds and the proposals of a line rely on it.
 use Rattle.model.proofs.Kit.{_≡_, refl, sym, ap, subst, _∙_, List, [], _∷_, _++_, append-assoc, append-nil, Option, ℕ}
-use Rattle.model.proofs.Kit.{_+_}
-use Rattle.model.proofs.Kit.{_≤_, _<_, length, drop, getD, lt-of-not-le, drop-of-length-le, arith}
+use Rattle.model.proofs.Kit.{_+_, _≤_, _<_, length, drop, getD, lt-of-not-le, drop-of-length-le, arith}
 use Rattle.model.specs.Bytes.{byte, Each}
 use Rattle.model.specs.Show.{text, textFrom}
 use Rattle.model.specs.Forms.{Read, found, listIn}
