@@ -114,8 +114,11 @@ uint8_t lufanelis_check(const uint8_t *board, size_t board_length);
  *   bits 0 to 7     the refusal's number (7 to 12, 14 to 16), 0 for a step that was taken
  *   bits 8 to 15    what the step did, 1 to 7 as above; 0 beside a refusal
  *   bits 16 to 23   the island of *went*, *adopted*, *decided* and *spent*, the flag of *marked*; else 0
- *   bits 24 to 31   0
- *   bits 32 to 63   the figure of these five, 32 bits of two's complement; else 0 */
+ *   bits 24 to 31   of *read* 1 where the register was filled and 0 where it was empty; of these five the total, which is the
+ *                   number of filled registers that the reads of the collect met, the last one included, at most 16; else 0
+ *   bits 32 to 63   the figure of these five, 32 bits of two's complement; else 0
+ * A total is 1 at the least where every step of the collect was taken by these calls. A sound board that was made otherwise may
+ * tell any count up to the position, and the total goes on from there. Nothing is decided by it. */
 uint64_t lufanelis_step(uint8_t *board, size_t board_length, uint8_t station);
 
 /* How one station stands, and how many steps it took: what a station asks that comes back to a board, and what is asked of a
@@ -205,6 +208,18 @@ static inline uint8_t lufanelis_step_island(uint64_t answer)
 static inline uint8_t lufanelis_step_flag(uint64_t answer)
 {
     return lufanelis_step_kind(answer) == LUFANELIS_MARKED ? (uint8_t)(answer >> 16 & 0xFF) : 0;
+}
+
+/* Whether *read* met a filled register: 1 or 0. */
+static inline uint8_t lufanelis_step_filled(uint64_t answer)
+{
+    return lufanelis_step_kind(answer) == LUFANELIS_READ ? (uint8_t)(answer >> 24 & 0xFF) : 0;
+}
+
+/* How many filled registers the collect met that *went*, *marked*, *adopted*, *decided* or *spent* ended. */
+static inline uint8_t lufanelis_step_total(uint64_t answer)
+{
+    return lufanelis_step_kind(answer) == LUFANELIS_READ ? 0 : (uint8_t)(answer >> 24 & 0xFF);
 }
 
 static inline uint8_t lufanelis_standing_refusal(uint64_t answer) { return (uint8_t)(answer & 0xFF); }

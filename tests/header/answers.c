@@ -81,15 +81,38 @@ static void parts(void)
     HOLDS(lufanelis_played_laid(LUFANELIS_NOT_PLAYED) == 0);
 }
 
+/* Bits 24 to 31 are the part of *read* or the total, by the kind; the parts beside them are empty or full. */
+static void filled_parts(void)
+{
+    const uint64_t others = BITS(16, 8) | BITS(32, 32), wrote = (uint64_t)LUFANELIS_WROTE << 8;
+    uint64_t kind;
+
+    PART(lufanelis_step_total, BITS(24, 8), 255);
+    HOLDS(lufanelis_step_filled(BITS(24, 8)) == 0);
+    HOLDS(lufanelis_step_filled(wrote) == 0 && lufanelis_step_total(wrote) == 0);
+    HOLDS(lufanelis_step_filled(LUFANELIS_IDLE) == 0 && lufanelis_step_total(LUFANELIS_IDLE) == 0);
+    for (kind = LUFANELIS_READ; kind <= LUFANELIS_SPENT; kind++) {
+        const uint64_t none = kind << 8 | others, one = kind << 8 | BITS(24, 1), most = none | BITS(24, 8);
+        const int reads = kind == LUFANELIS_READ;
+
+        HOLDS(lufanelis_step_filled(none) == 0 && lufanelis_step_total(none) == 0);
+        HOLDS(lufanelis_step_filled(one) == (reads ? 1 : 0) && lufanelis_step_total(one) == (reads ? 0 : 1));
+        HOLDS(lufanelis_step_filled(most) == (reads ? 255 : 0) && lufanelis_step_total(most) == (reads ? 0 : 255));
+    }
+}
+
 static uint8_t board[LUFANELIS_BOARD_LENGTH(2, 2)];
 
 static uint64_t step(uint8_t station) { return lufanelis_step(board, sizeof board, station); }
 
-static int steps(uint64_t answer, uint8_t kind, uint8_t island, uint8_t flag, int32_t figure)
+/* The last is whether *read* met a filled register, or the total. */
+static int steps(uint64_t answer, uint8_t kind, uint8_t island, uint8_t flag, int32_t figure, uint8_t filled)
 {
     return lufanelis_step_refusal(answer) == LUFANELIS_ACCEPTED && lufanelis_step_kind(answer) == kind &&
            lufanelis_step_island(answer) == island && lufanelis_step_flag(answer) == flag &&
-           lufanelis_step_figure(answer) == figure;
+           lufanelis_step_figure(answer) == figure &&
+           lufanelis_step_filled(answer) == (kind == LUFANELIS_READ ? filled : 0) &&
+           lufanelis_step_total(answer) == (kind == LUFANELIS_READ ? 0 : filled);
 }
 
 static int stands(uint8_t station, uint8_t kind, uint8_t island, int32_t figure, uint16_t taken)
@@ -112,30 +135,52 @@ static void alone(int32_t figure)
 {
     HOLDS(lufanelis_lay(board, sizeof board, 2, 2) == LUFANELIS_ACCEPTED);
     HOLDS(stands(1, LUFANELIS_STANDS_IDLE, 0, 0, 0));
-    HOLDS(lufanelis_step_refusal(step(1)) == LUFANELIS_IDLE && lufanelis_step_kind(step(1)) == 0);
+    HOLDS(step(1) == LUFANELIS_IDLE);
     HOLDS(stands(1, LUFANELIS_STANDS_IDLE, 0, 0, 0));
     HOLDS(lufanelis_propose(board, sizeof board, 1, figure) == LUFANELIS_ACCEPTED);
     HOLDS(stands(1, LUFANELIS_STANDS_GOING, 0, figure, 0));
-    HOLDS(steps(step(1), LUFANELIS_WROTE, 0, 0, 0));
+    HOLDS(steps(step(1), LUFANELIS_WROTE, 0, 0, 0, 0));
     HOLDS(stands(1, LUFANELIS_STANDS_GOING, 0, figure, 1));
-    HOLDS(steps(step(1), LUFANELIS_READ, 0, 0, 0));
+    HOLDS(steps(step(1), LUFANELIS_READ, 0, 0, 0, 1));
     HOLDS(stands(1, LUFANELIS_STANDS_GOING, 0, figure, 2));
-    HOLDS(steps(step(1), LUFANELIS_WENT, 0, 0, figure));
+    HOLDS(steps(step(1), LUFANELIS_WENT, 0, 0, figure, 1));
     HOLDS(stands(1, LUFANELIS_STANDS_GOING, 0, figure, 3));
-    HOLDS(steps(step(1), LUFANELIS_WROTE, 0, 0, 0));
-    HOLDS(steps(step(1), LUFANELIS_READ, 0, 0, 0));
-    HOLDS(steps(step(1), LUFANELIS_MARKED, 0, LUFANELIS_COMMIT, figure));
-    HOLDS(steps(step(1), LUFANELIS_WROTE, 0, 0, 0));
+    HOLDS(steps(step(1), LUFANELIS_WROTE, 0, 0, 0, 0));
+    HOLDS(steps(step(1), LUFANELIS_READ, 0, 0, 0, 1));
+    HOLDS(steps(step(1), LUFANELIS_MARKED, 0, LUFANELIS_COMMIT, figure, 1));
+    HOLDS(steps(step(1), LUFANELIS_WROTE, 0, 0, 0, 0));
     HOLDS(stands(1, LUFANELIS_STANDS_GOING, 0, figure, 7));
-    HOLDS(steps(step(1), LUFANELIS_READ, 0, 0, 0));
-    HOLDS(steps(step(1), LUFANELIS_DECIDED, 0, 0, figure));
+    HOLDS(steps(step(1), LUFANELIS_READ, 0, 0, 0, 1));
+    HOLDS(steps(step(1), LUFANELIS_DECIDED, 0, 0, figure, 1));
     HOLDS(stands(1, LUFANELIS_STANDS_DECIDED, 0, figure, 9));
     HOLDS(stands(2, LUFANELIS_STANDS_IDLE, 0, 0, 0));
-    HOLDS(lufanelis_step_refusal(step(1)) == LUFANELIS_HAS_DECIDED);
+    HOLDS(step(1) == LUFANELIS_HAS_DECIDED);
     HOLDS(stands(1, LUFANELIS_STANDS_DECIDED, 0, figure, 9));
     HOLDS(stands_refused(sizeof board, 0, LUFANELIS_NO_SUCH_STATION));
     HOLDS(stands_refused(sizeof board, 3, LUFANELIS_NO_SUCH_STATION));
     HOLDS(stands_refused(sizeof board - 1, 1, LUFANELIS_BAD_BOARD_LENGTH));
+}
+
+/* What is written behind a read is not counted, and what is written before it is: the second station passes the first one's m
+ * empty and its A just filled. */
+static void filled_in_time(void)
+{
+    HOLDS(lufanelis_lay(board, sizeof board, 2, 2) == LUFANELIS_ACCEPTED);
+    HOLDS(lufanelis_propose(board, sizeof board, 1, 7) == LUFANELIS_ACCEPTED);
+    HOLDS(lufanelis_propose(board, sizeof board, 2, 7) == LUFANELIS_ACCEPTED);
+    HOLDS(steps(step(2), LUFANELIS_WROTE, 0, 0, 0, 0));
+    HOLDS(steps(step(2), LUFANELIS_READ, 0, 0, 0, 0));
+    HOLDS(steps(step(1), LUFANELIS_WROTE, 0, 0, 0, 0));
+    HOLDS(steps(step(2), LUFANELIS_WENT, 0, 0, 7, 1));
+    HOLDS(steps(step(1), LUFANELIS_READ, 0, 0, 0, 1));
+    HOLDS(steps(step(1), LUFANELIS_WENT, 0, 0, 7, 2));
+    HOLDS(steps(step(2), LUFANELIS_WROTE, 0, 0, 0, 0));
+    HOLDS(steps(step(1), LUFANELIS_WROTE, 0, 0, 0, 0));
+    HOLDS(steps(step(2), LUFANELIS_READ, 0, 0, 0, 1));
+    HOLDS(steps(step(2), LUFANELIS_MARKED, 0, LUFANELIS_COMMIT, 7, 2));
+    HOLDS(steps(step(2), LUFANELIS_WROTE, 0, 0, 0, 0));
+    HOLDS(steps(step(2), LUFANELIS_READ, 0, 0, 0, 0));
+    HOLDS(steps(step(2), LUFANELIS_DECIDED, 0, 0, 7, 1));
 }
 
 /* Figures as the header says they rise: of each two, the higher one is what both stations go on with. */
@@ -248,13 +293,13 @@ static void circling(void)
     HOLDS(lufanelis_run_refusal(ran) == LUFANELIS_ACCEPTED);
     HOLDS(lufanelis_run_taken(ran) == sizeof island && lufanelis_run_passed(ran) == 0);
     HOLDS(stands(1, LUFANELIS_STANDS_GOING, 1, 7, 9));
-    HOLDS(steps(step(2), LUFANELIS_ADOPTED, 1, 0, 3));
+    HOLDS(steps(step(2), LUFANELIS_ADOPTED, 1, 0, 3, 2));
     lufanelis_run(board, sizeof board, island, sizeof island);
     HOLDS(stands(1, LUFANELIS_STANDS_SPENT, 1, 7, 18));
     HOLDS(stands(2, LUFANELIS_STANDS_GOING, 1, 3, 17));
-    HOLDS(steps(step(2), LUFANELIS_SPENT, 1, 0, 3));
+    HOLDS(steps(step(2), LUFANELIS_SPENT, 1, 0, 3, 2));
     HOLDS(stands(2, LUFANELIS_STANDS_SPENT, 1, 3, 18));
-    HOLDS(lufanelis_step_refusal(step(2)) == LUFANELIS_IS_SPENT);
+    HOLDS(step(2) == LUFANELIS_IS_SPENT);
 }
 
 static void runs(void)
@@ -300,11 +345,11 @@ static void rounds(void)
     HOLDS(stands(1, LUFANELIS_STANDS_GOING, 0, 7, 0) && stands(2, LUFANELIS_STANDS_GOING, 0, 3, 0));
     HOLDS(plays(rounds_of(1, "\2\377\2\377\2", 5), 3, 1));
     HOLDS(stands(1, LUFANELIS_STANDS_DECIDED, 0, 7, 9) && stands(2, LUFANELIS_STANDS_GOING, 0, 3, 0));
-    HOLDS(steps(step(2), LUFANELIS_WROTE, 0, 0, 0));
+    HOLDS(steps(step(2), LUFANELIS_WROTE, 0, 0, 0, 0));
     HOLDS(refuses(rounds_of(0, "", 0), LUFANELIS_AMID_COLLECT));
     HOLDS(refuses(rounds_of(0, "\0", 1), LUFANELIS_AMID_COLLECT));
-    HOLDS(steps(step(2), LUFANELIS_READ, 0, 0, 0));
-    HOLDS(steps(step(2), LUFANELIS_WENT, 0, 0, 7));
+    HOLDS(steps(step(2), LUFANELIS_READ, 0, 0, 0, 1));
+    HOLDS(steps(step(2), LUFANELIS_WENT, 0, 0, 7, 2));
     HOLDS(plays(rounds_of(0, "\377\377\377\377", 4), 4, 2));
     HOLDS(plays(rounds_of(2, "\1\2\377", 3), 1, 2));
     HOLDS(refuses(lufanelis_rounds(board, 7, 0, (const uint8_t *)"", 0), LUFANELIS_BOARD_TOO_SHORT));
@@ -425,9 +470,11 @@ int main(void)
 {
     figures();
     parts();
+    filled_parts();
     alone(INT32_MIN);
     alone(INT32_MAX);
     alone(-1);
+    filled_in_time();
     rise();
     pairs_made();
     together(INT32_MIN, INT32_MAX);

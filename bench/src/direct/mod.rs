@@ -100,6 +100,11 @@ fn show(board: &[u8], mut line: &mut [u8]) -> Result<usize, u8> {
 }
 
 impl Engine for Direct {
+    // Lines of a sheet are not measured by this one; they are the other implementation's.
+    fn rest(&self) -> &dyn Engine {
+        &Reference
+    }
+
     fn lay(&self, board: &mut [u8], n: u8, k: u8) -> u8 {
         if board.len() < 8 {
             return 7;
@@ -185,14 +190,5 @@ impl Engine for Direct {
             return u32::MAX;
         }
         show(board, &mut line[..SHOWN]).map_or_else(|refusal| refusal as u32, |length| (length as u32) << 16)
-    }
-
-    // Lines of a sheet are not measured by this one; these two are the other implementation's.
-    fn word(&self, line: &mut [u8]) -> u64 {
-        Reference.word(line)
-    }
-
-    fn play_line(&self, line: &mut [u8], laid: usize, memory: &mut [u8], printed: &mut [u8]) -> u64 {
-        Reference.play_line(line, laid, memory, printed)
     }
 }

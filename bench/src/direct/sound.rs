@@ -53,7 +53,9 @@ fn fields_sound(r: &[u8; RECORD], n: usize, k: usize) -> bool {
     let best = figure(r, 16);
     let flags = if matches!(phase, 5 | 6) { flag == 1 || flag == 2 } else { flag == 0 };
     let ranges = phase <= 8 && (next as usize) < n && (island as usize) < k && (best_island as usize) < k;
-    let zeros = r[6..8] == [0; 2] && r[22..24] == [0; 2];
+    // With byte 7, which is zero, as its high byte: at most the position, which is zero outside a collect.
+    let met = u16::from_le_bytes([r[6], r[7]]);
+    let counts = met <= next as u16 && r[22..24] == [0; 2];
     let summary = match phase {
         2 => seen <= 1,
         4 => seen <= 2,
@@ -62,7 +64,7 @@ fn fields_sound(r: &[u8; RECORD], n: usize, k: usize) -> bool {
     };
     flags
         && ranges
-        && zeros
+        && counts
         && summary
         && (phase == 2 || best_island == 0)
         && (seen != 0 || best_island == 0 && best == 0)

@@ -18,7 +18,7 @@ ghost use Rattle.model.specs.Layout.{fields};
 ghost use Rattle.model.specs.Listing.{nothing, turnM, turnA, turnB, Flag};
 ghost use Rattle.model.specs.Listing as listing;
 ghost use Rattle.collect.specs.Collected.{Kept, collected, withSeen, endedSeen};
-ghost use Rattle.archipelago.specs.Advanced.{Advanced, Finishes, decision, staying};
+ghost use Rattle.archipelago.specs.Advanced.{EndsBy, Finishes, decision, meeting, staying};
 
 pub fn stay(station: Record, answer: StepAnswer) -> Moved
     ensures { λ r. ⌜ r ≡ staying station answer ⌝ }
@@ -35,9 +35,9 @@ pub fn stay(station: Record, answer: StepAnswer) -> Moved
     }
 }
 
-// A phase begins: at position 0, with nothing seen.
+// A phase begins: at position 0, with nothing seen and nothing met.
 fn start(station: Record, phase: u8, island: u8, flag: u8, carried: i32) -> Record
-    ensures { λ r. ⌜ r ≡ fields phase 0 island nothing flag (station .proposal) carried station ⌝ }
+    ensures { λ r. ⌜ r ≡ fields phase 0 island nothing flag (station .proposal) carried (meeting 0 station) ⌝ }
 {
     let mut next = station;
     next.phase = phase;
@@ -48,6 +48,7 @@ fn start(station: Record, phase: u8, island: u8, flag: u8, carried: i32) -> Reco
     next.flag = flag;
     next.carried = carried;
     next.best = 0;
+    next.met = 0;
     next
 }
 
@@ -77,6 +78,7 @@ pub fn finish_m(station: Record) -> Moved
         StepAnswer::Went {
             island: last.highest,
             figure: last.best,
+            total: last.met,
         },
     )
 }
@@ -100,6 +102,7 @@ pub fn finish_a(station: Record) -> Moved
             StepAnswer::Marked {
                 flag: COMMIT,
                 figure: last.best,
+                total: last.met,
             },
         );
     }
@@ -109,6 +112,7 @@ pub fn finish_a(station: Record) -> Moved
         StepAnswer::Marked {
             flag: ADOPT,
             figure: last.best,
+            total: last.met,
         },
     )
 }
@@ -126,22 +130,36 @@ pub fn finish_b(k: u8, station: Record) -> Moved
 }
 
 fn decided(station: Record, figure: i32) -> Moved
-    ensures { λ r. ⌜ Advanced station (decision (station .island) figure) r ⌝ }
+    ensures { λ r. ⌜ EndsBy (decision (station .island) figure) station r ⌝ }
 {
     let island = station.island;
     let next = start(station, DECIDED, island, 0, figure);
-    stay(next, StepAnswer::Decided { island, figure })
+    stay(
+        next,
+        StepAnswer::Decided {
+            island,
+            figure,
+            total: station.met,
+        },
+    )
 }
 
 // An adopt: on to the next island, or spent at the last one.
 fn onward(k: u8, station: Record, figure: i32) -> Moved
     requires { ⌜ station .island < k ⌝ }
-    ensures { λ r. ⌜ Advanced station (listing.onward k (station .island) figure) r ⌝ }
+    ensures { λ r. ⌜ EndsBy (listing.onward k (station .island) figure) station r ⌝ }
 {
     let island = station.island + 1;
     if island < k {
         let next = start(station, WRITE_M, island, 0, figure);
-        return stay(next, StepAnswer::Adopted { island, figure });
+        return stay(
+            next,
+            StepAnswer::Adopted {
+                island,
+                figure,
+                total: station.met,
+            },
+        );
     }
     let next = start(station, SPENT, station.island, 0, figure);
     stay(
@@ -149,6 +167,7 @@ fn onward(k: u8, station: Record, figure: i32) -> Moved
         StepAnswer::Spent {
             island: station.island,
             figure,
+            total: station.met,
         },
     )
 }

@@ -22,12 +22,13 @@ unfoldable pub Bytes : RoundsVerdict → Type 0
 Bytes (byRound.Played r d) = d < 256
 Bytes (byRound.Refused k) = k < 256
 
--- a step's four parts; the code's kind and island, or flag, are bytes
-pub step-parts : (number kind field figure : ℕ) → number < 256 → kind < 256 → field < 256
-    → let s : ℕ = packed number kind field figure in
-    (s % 256 ≡ number) × (s / 256 % 256 ≡ kind) × (s / 65536 % 65536 ≡ field) × (s / 4294967296 ≡ figure)
+-- a step's five parts; the code's kind, its island or flag, and what it met are bytes
+pub step-parts : (number kind field figure met : ℕ) → number < 256 → kind < 256 → field < 256 → met < 256
+    → let s : ℕ = packed number kind field figure + met * 16777216 in
+    (s % 256 ≡ number) × (s / 256 % 256 ≡ kind) × (s / 65536 % 256 ≡ field) × (s / 16777216 % 256 ≡ met)
+    × (s / 4294967296 ≡ figure)
 unfolding packedAt
-step-parts number kind field figure n k f = omega arith
+step-parts number kind field figure met n k f m = omega arith
 
 -- how a station stands and its steps; the code's island is a byte
 pub standing-parts : (number kind island figure steps : ℕ) → number < 256 → kind < 16 → island < 256 → steps ≤ 4095

@@ -5,7 +5,7 @@ use Prim.Native.Nat.{ℕ}
 use Rattle.model.specs.declared.Record.{Record}
 use Rattle.model.specs.Bytes.{part}
 use Rattle.model.specs.Layout.{readRecord, Change, phaseIs, positionIs, islandIs, seenIs, highestIs, flagIs}
-use Rattle.model.specs.Layout.{carriedIs, bestIs}
+use Rattle.model.specs.Layout.{carriedIs, bestIs, metIs}
 
 -- the steps of the record that stands at `at` of the bytes b
 abbrev pub stepsRead : (at : ℕ) → List ℕ → ℕ
@@ -17,7 +17,8 @@ phasePart r = phaseIs (r .phase) ∷ []
 
 -- all that a read in the middle of a collect changes
 unfoldable pub collectedPart : Record → List Change
-collectedPart r = positionIs (r .position) ∷ seenIs (r .seen) ∷ highestIs (r .highest) ∷ bestIs (r .best) ∷ []
+collectedPart r =
+    positionIs (r .position) ∷ seenIs (r .seen) ∷ highestIs (r .highest) ∷ metIs (r .met) ∷ bestIs (r .best) ∷ []
 
 -- all that the end of a collect changes, which is every field but the proposal and the steps
 unfoldable pub startedPart : Record → List Change

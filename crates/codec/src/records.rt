@@ -1,4 +1,5 @@
-// A station record's 24 bytes: six fields of a byte, two zeros, three figures, the steps in two bytes, two zeros.
+// A station record's 24 bytes: six fields of a byte, the filled registers met, a zero, three figures, the steps in two
+// bytes, two zeros.
 // Relies on figures and cells; the soundness test and the calls rely on it.
 ghost use mathlib.Core.Path.{_≡_};
 ghost use mathlib.Core.List.{[], _∷_};
@@ -30,6 +31,7 @@ pub fn record_at(s: &[u8], at: usize) -> Record
         carried: figure_at(s, at + 12),
         best: figure_at(s, at + 16),
         steps: pair_at(s, at + 20),
+        met: s[at + 6],
     }
 }
 
@@ -52,7 +54,7 @@ pub fn put_record(board: &mut [u8], at: usize, r: Record)
             r.seen,
             r.highest,
             r.flag,
-            0,
+            r.met,
             0,
         ],
     );
@@ -102,6 +104,7 @@ pub fn put_collected(board: &mut [u8], at: usize, r: Record)
     board[at + 1] = r.position;
     board[at + 3] = r.seen;
     board[at + 4] = r.highest;
+    board[at + 6] = r.met;
     put_figure(board, at + 16, r.best);
 }
 

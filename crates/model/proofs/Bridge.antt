@@ -4,7 +4,9 @@ pub mod Single
 pub mod WholeSteps
 pub mod SettledAgain
 pub mod Lists
+pub mod OneRecord
 pub mod StepCount
+pub mod FilledCount
 pub mod RunCalls
 pub mod Along
 pub mod History

@@ -9,6 +9,7 @@ pub mod Runs
 pub mod Rounds
 pub mod Accepted
 pub mod StepsTaken
+pub mod MetSoFar
 pub mod Proposals
 pub mod AnyOrder
 pub mod Claims

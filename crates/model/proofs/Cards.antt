@@ -4,7 +4,7 @@ use Rattle.model.proofs.Kit.{_≡_, refl, sym, ap, _∙_, Bool, true, f
 use Rattle.model.proofs.Kit.{eqb-refl}
 use Rattle.model.specs.Bytes.{byte}
 use Rattle.model.specs.Figure.{Figure}
-use Rattle.model.specs.Listing.{Answer}
+use Rattle.model.specs.Filled.{Report, filledIn, metWith, metKeptAt, reported}
 use Rattle.model.specs.Calls.{After, RunAnswer, ran, notRun}
 use Rattle.model.specs.Bytes.{number, digits, part, splice, zeros, every, implies}
 use Rattle.model.specs.Figure.{figure, figureBytes, sameFigure, above, figures}
@@ -20,7 +20,7 @@ use Rattle.model.specs.Sound.{positionInside, islandInside}
 use Rattle.model.specs.Sound.{bestInside, flagKnown, restZero, idleZero, collectZero, bestIslandZero, bestZero}
 use Rattle.model.specs.Sound.{seenKnown, sameRegister}
 use Rattle.model.specs.Sound.{ownWritten, ownSeen, ownPassed, turnsBefore, presentPass, islandOf, mostSteps}
-use Rattle.model.specs.Sound.{stepsKept, fieldsSound, recordSound, sound}
+use Rattle.model.specs.Sound.{stepsKept, mostMet, metKept, fieldsSound, recordSound, sound}
 use Rattle.model.specs.Calls.{unless, ranges, shapeRefusal, stations, islands, boardRefusal, stationRefusal}
 use Rattle.model.specs.Calls.{stationAt, unlessRefused, lay, putRecord}
 use Rattle.model.specs.Calls.{putRegister, notIdle, propose, notGoing, access, stepped, stepOn, step, ranFrom}
@@ -36,7 +36,7 @@ unlike look a b e p =
     clash (sym (T-true (eqb (look a) (look a)) (eqb-refl (look a))) ∙ ap (λ (x : _). eqb (look a) (look x)) p ∙ e)
 
 -- at the byte k of its board each card leaves something else than the step
-at : ℕ → After (Answer Figure) → ℕ
+at : ℕ → After (Report Figure) → ℕ
 at k a = byte (a .bytes) k
 
 same : ℕ → Row → Bool
@@ -70,7 +70,7 @@ unfolding ShutOut AllDiffer rows at same different taken movedBy by listing endi
     changed recordValue writingOf readingOf ofPhase registerOf recordOf stationOf headSound registerSound arraySound
     registersSound collecting phaseKnown positionInside islandInside bestInside flagKnown restZero idleZero
     collectZero bestIslandZero bestZero seenKnown sameRegister ownWritten ownSeen ownPassed turnsBefore presentPass
-    islandOf mostSteps stepsKept fieldsSound recordSound sound unless ranges shapeRefusal stations islands
+    islandOf mostSteps stepsKept mostMet metKept filledIn metWith metKeptAt reported fieldsSound recordSound sound unless ranges shapeRefusal stations islands
     boardRefusal stationRefusal stationAt unlessRefused lay
     putRecord putRegister notIdle propose notGoing access stepped stepOn step ranFrom run
 shut-out = (all-differ (8 ∷ 8 ∷ 60 ∷ 104 ∷ 88 ∷ 112 ∷ 112 ∷ 164 ∷ 178 ∷ 93 ∷ 93 ∷ []) rows tt, unlike taken _ _ refl)

@@ -11,4 +11,5 @@ pub mod Demand3
 pub mod Sheet
 pub mod Starred
 pub mod Cards
-pub mod StepBounds
+pub mod CountBounds
+pub mod FilledRuns

@@ -10,5 +10,6 @@ pub mod Rows
 pub mod OneRead
 pub mod Moves
 pub mod MostSteps
+pub mod MostMet
 pub mod Tells
 pub mod Going

@@ -6,6 +6,7 @@ use Rattle.model.specs.Bytes.{number, digits, part, splice, zeros, every
 use Rattle.model.specs.Figure.{figure, figureBytes, sameFigure, above, figures}
 use Rattle.model.specs.Listing.{array, placeArray, placeColumn, accepted, outcome, entry, proposed, stay, onward}
 use Rattle.model.specs.Listing.{finish, ended, larger, pairAbove, add, see, move, flagOf, flagNumber}
+use Rattle.model.specs.Filled.{filledIn, metWith, metKeptAt, reported}
 use Rattle.model.specs.Layout.{boardLength, rowOf, registerAt, recordAt, freshBoard, readRegister, layRegister}
 use Rattle.model.specs.Layout.{registerFields, registerValue, seenNumber}
 use Rattle.model.specs.Layout.{bestIsland, bestFigure, seenOf, writePhase, flagByte, readRecord, layRecord}
@@ -16,7 +17,7 @@ use Rattle.model.specs.Sound.{positionInside, islandInside}
 use Rattle.model.specs.Sound.{bestInside, flagKnown, restZero, idleZero, collectZero, bestIslandZero, bestZero}
 use Rattle.model.specs.Sound.{seenKnown, sameRegister}
 use Rattle.model.specs.Sound.{ownWritten, ownSeen, ownPassed, turnsBefore, presentPass, islandOf, mostSteps}
-use Rattle.model.specs.Sound.{stepsKept, fieldsSound, recordSound, sound}
+use Rattle.model.specs.Sound.{stepsKept, mostMet, metKept, fieldsSound, recordSound, sound}
 use Rattle.model.specs.Calls.{unless, ranges, shapeRefusal, stations, islands, boardRefusal, stationRefusal}
 use Rattle.model.specs.Calls.{stationAt, unlessRefused, lay, putRecord}
 use Rattle.model.specs.Calls.{putRegister, notIdle, propose, notGoing, access, stepped, stepOn, step, ranFrom}
@@ -46,7 +47,7 @@ unfolding Starred Holds rise rows sheet asLines layIn number digits part splice 
     fields recordFields changed recordValue writingOf readingOf ofPhase registerOf recordOf stationOf headSound
     registerSound arraySound registersSound collecting phaseKnown positionInside islandInside bestInside flagKnown
     restZero idleZero collectZero bestIslandZero bestZero seenKnown sameRegister ownWritten ownSeen ownPassed
-    turnsBefore presentPass islandOf mostSteps stepsKept fieldsSound recordSound sound unless shapeRefusal stations
+    turnsBefore presentPass islandOf mostSteps stepsKept mostMet metKept filledIn metWith metKeptAt reported fieldsSound recordSound sound unless shapeRefusal stations
     islands boardRefusal stationRefusal stationAt
     unlessRefused lay putRecord putRegister notIdle propose notGoing access stepped stepOn step ranFrom run textFrom
     text decimalIn decimal signed worded standingText standingOf status statuses shownLine shownAs show repeated

@@ -7,8 +7,9 @@ use mir.Syntax.{w32}
 use mir.Val.{SFits}
 use Rattle.model.specs.Figure.{Figure}
 use Rattle.model.specs.Layout.{freshBoard}
-use Rattle.model.specs.Listing.{Answer, decided, refused, Outcome, goes-on, comes-to-end, is-refused, outcome}
+use Rattle.model.specs.Listing.{Answer, decided, Outcome, goes-on, comes-to-end, is-refused, outcome}
 use Rattle.model.specs.Listing.{accepted}
+use Rattle.model.specs.Filled.{Report, refusal}
 use Rattle.model.specs.Calls.{After, lay, propose, step}
 
 -- "It holds proposals and single steps, with any station numbers and figures .. refused ones, and refused layings, may
@@ -51,10 +52,10 @@ module _ (i : ℕ) where
   Proposes v c b = (c ≡ proposing i v) × (propose i v b .answer ≡ none)
 
   unfoldable pub Steps : Call → List ℕ → Type 0
-  Steps c b = (c ≡ stepping i) × (accepted (step i b .answer) ≡ true)
+  Steps c b = (c ≡ stepping i) × (accepted (step i b .answer .did) ≡ true)
 
   unfoldable pub Decides : Figure → Call → List ℕ → Type 0
-  Decides v c b = (c ≡ stepping i) × ((k : ℕ) × (step i b .answer ≡ decided k v))
+  Decides v c b = (c ≡ stepping i) × ((k : ℕ) × (step i b .answer .did ≡ decided k v))
 
 -- the answers after which a station is stepped no more
 unfoldable pub ends : {F : Type 0} → Answer F → Bool
@@ -62,9 +63,9 @@ ends a = elim (outcome a) [ goes-on ↦ false | comes-to-end ↦ true | is-refus
 
 -- "the station is stepped until a step of it answers *decided* or *spent*". The fuel bounds the steps; `Demand3` asks
 -- for every fuel from 6(n + 1) on, so that it never runs out.
-unfoldable pub until : (fuel i : ℕ) → List ℕ → After (Answer Figure)
-until zero i b = record { answer = refused 0; bytes = b }
-until (suc fuel) i b = elim (ends (step i b .answer)) [ true ↦ step i b | false ↦ until fuel i (step i b .bytes) ]
+unfoldable pub until : (fuel i : ℕ) → List ℕ → After (Report Figure)
+until zero i b = record { answer = refusal 0; bytes = b }
+until (suc fuel) i b = elim (ends (step i b .answer .did)) [ true ↦ step i b | false ↦ until fuel i (step i b .bytes) ]
 
 -- An order names stations, each with the figure it proposed in the list.
 pub record Seat : Type 0 where
@@ -73,14 +74,14 @@ pub record Seat : Type 0 where
 
 -- "For each station in turn, the figure it proposed in the list is proposed and the station is stepped until ..; then
 -- the next begins."
-unfoldable pub turn : (fuel : ℕ) → Seat → List ℕ → After (Answer Figure)
+unfoldable pub turn : (fuel : ℕ) → Seat → List ℕ → After (Report Figure)
 turn fuel s b = until fuel (s .station) (propose (s .station) (s .figure) b .bytes)
 
 -- every station that the order names answers *decided* with v
 unfoldable pub EachDecides : (fuel : ℕ) (v : Figure) → List Seat → List ℕ → Type 0
 EachDecides fuel v [] b = Unit {0}
 EachDecides fuel v (s ∷ ss) b =
-    ((k : ℕ) × (turn fuel s b .answer ≡ decided k v)) × EachDecides fuel v ss (turn fuel s b .bytes)
+    ((k : ℕ) × (turn fuel s b .answer .did ≡ decided k v)) × EachDecides fuel v ss (turn fuel s b .bytes)
 
 unfoldable pub Among : ℕ → List Seat → Type 0
 Among i [] = ⊥

@@ -7,9 +7,10 @@ use Rattle.model.specs.declared.Record.{Record}
 use Rattle.model.specs.Bytes.{byte, splice}
 use Rattle.model.specs.Figure.{Figure, figures}
 use Rattle.model.specs.Listing.{Register, Stage, writing, reading, has-decided, is-spent, Station, idle, active}
-use Rattle.model.specs.Listing.{Answer, refused, accepted, Array, placeArray, placeColumn, proposed, Move, move}
+use Rattle.model.specs.Listing.{accepted, Array, placeArray, placeColumn, proposed, Move, move}
+use Rattle.model.specs.Filled.{Report, filledIn, metWith, metKeptAt, report, refusal}
 use Rattle.model.specs.Layout.{boardLength, registerAt, recordAt, freshBoard, layRegister, registerFields}
-use Rattle.model.specs.Layout.{layRecord, recordFields, withSteps, registerOf, fieldsOf, stationOf}
+use Rattle.model.specs.Layout.{layRecord, recordFields, withCounts, registerOf, fieldsOf, stationOf}
 use Rattle.model.specs.Sound.{sound}
 
 -- What a call answers, and the bytes of the lent board as it returns.
@@ -67,6 +68,10 @@ stationAt i b = stationOf (stations b) (islands b) (i - 1) b
 unfoldable pub stepsTaken : (i : ℕ) → List ℕ → ℕ
 stepsTaken i b = fieldsOf (stations b) (islands b) (i - 1) b .steps
 
+-- and the filled registers that its collect has met so far
+unfoldable pub metSoFar : (i : ℕ) → List ℕ → ℕ
+metSoFar i b = fieldsOf (stations b) (islands b) (i - 1) b .met
+
 -- an accepted call's answer and bytes; "a refusal .. changes no byte"
 unfoldable pub unlessRefused : {A : Type 0} → Refusal → (ℕ → A) → List ℕ → After A → After A
 unlessRefused none turnDown b ok = ok
@@ -89,9 +94,9 @@ unfoldable pub notIdle : Station Figure → Refusal
 notIdle idle = none
 notIdle (active v s) = some 13
 
--- a proposal of the station with index j; its steps are counted from here
+-- a proposal of the station with index j; its steps are counted from here, and it has met nothing
 abbrev pub putProposal : (n K j : ℕ) → Figure → List ℕ → List ℕ
-putProposal n K j v b = putRecord n K j (recordFields (proposed v) (withSteps 0 (fieldsOf n K j b))) b
+putProposal n K j v b = putRecord n K j (recordFields (proposed v) (withCounts 0 0 (fieldsOf n K j b))) b
 
 -- what a sound board refuses of a proposal of station number i: 12, then 13
 abbrev pub proposalRefusal : (i : ℕ) → List ℕ → Refusal
@@ -111,37 +116,46 @@ notGoing (active v (reading t c x p a)) = none
 notGoing (active v (has-decided c x)) = some 15
 notGoing (active v (is-spent c x)) = some 16
 
--- the record of station index j, with proposal v, that an accepted step brings to stage s: "the station's own accepted
--- steps since its proposal" are one more
-abbrev pub steppedRecord : (n K j : ℕ) → Figure → Stage Figure → List ℕ → Record
-steppedRecord n K j v s b = let f = fieldsOf n K j b in recordFields (active v s) (withSteps (f .steps + 1) f)
+-- how many filled registers the collect of the station with index j and stage s has met once it has accessed r
+abbrev pub metAfter : (n K j : ℕ) → Stage Figure → Register Figure → List ℕ → ℕ
+metAfter n K j s r b = metWith s r (fieldsOf n K j b .met)
 
--- what a move m of the station with index j, proposal v and stage s answers and leaves
-abbrev pub putMove : (n K j : ℕ) → Figure → Stage Figure → Move Figure → List ℕ → After (Answer Figure)
-putMove n K j v s m b = record {
-  answer = m .answer;
-  bytes = putRecord n K j (steppedRecord n K j v (m .stage) b) (putRegister n (placeArray s) j (m .written) b);
+-- the record of station index j, with proposal v, that an accepted step brings to stage s: "the station's own accepted
+-- steps since its proposal" are one more, and its collect has met k filled registers, if it still goes on
+abbrev pub steppedRecord : (n K j : ℕ) → Figure → Stage Figure → (k : ℕ) → List ℕ → Record
+steppedRecord n K j v s k b =
+    let f = fieldsOf n K j b in recordFields (active v s) (withCounts (f .steps + 1) (metKeptAt s k) f)
+
+-- what a move m of the station with index j, proposal v and stage s, which accesses the register r, answers and leaves
+abbrev pub putMove : (n K j : ℕ) → Figure → Stage Figure → Register Figure → Move Figure → List ℕ
+    → After (Report Figure)
+putMove n K j v s r m b = record {
+  answer = report (m .answer) (filledIn r) (metAfter n K j s r b);
+  bytes =
+      putRecord n K j (steppedRecord n K j v (m .stage) (metAfter n K j s r b) b)
+      (putRegister n (placeArray s) j (m .written) b);
 }
 
 -- "Each step moves one station on by a single register and touches no other station's record." An accepted step of the
 -- station with index j, proposal v and stage s: the listing's move over the one register at the stage's place.
-unfoldable pub access : (n K j : ℕ) → Figure → Stage Figure → List ℕ → After (Answer Figure)
-access n K j v s b = putMove n K j v s (move figures n K s (registerOf n (placeArray s) (placeColumn j s) b)) b
+unfoldable pub access : (n K j : ℕ) → Figure → Stage Figure → List ℕ → After (Report Figure)
+access n K j v s b =
+    let r = registerOf n (placeArray s) (placeColumn j s) b in putMove n K j v s r (move figures n K s r) b
 
 -- the same by the station's record
-unfoldable pub stepped : (n K j : ℕ) → Station Figure → List ℕ → After (Answer Figure)
-stepped n K j idle b = record { answer = refused 14; bytes = b }
+unfoldable pub stepped : (n K j : ℕ) → Station Figure → List ℕ → After (Report Figure)
+stepped n K j idle b = record { answer = refusal 14; bytes = b }
 stepped n K j (active v s) b = access n K j v s b
 
 -- a step on a board that is known to be sound
-unfoldable pub stepOn : (i : ℕ) → List ℕ → After (Answer Figure)
+unfoldable pub stepOn : (i : ℕ) → List ℕ → After (Report Figure)
 stepOn i b =
-    unlessRefused (stationRefusal i b (notGoing (stationAt i b))) refused b
+    unlessRefused (stationRefusal i b (notGoing (stationAt i b))) refusal b
     (stepped (stations b) (islands b) (i - 1) (stationAt i b) b)
 
 -- and on any lent bytes
-unfoldable pub step : (i : ℕ) → List ℕ → After (Answer Figure)
-step i b = unlessRefused (boardRefusal b none) refused b (stepOn i b)
+unfoldable pub step : (i : ℕ) → List ℕ → After (Report Figure)
+step i b = unlessRefused (boardRefusal b none) refusal b (stepOn i b)
 
 -- "S steps taken, T steps refused and passed over"
 pub data RunAnswer : Type 0 where
@@ -150,11 +164,11 @@ pub data RunAnswer : Type 0 where
 
 -- After s steps taken and t passed over, the stations of a list in turn, each lent "the board exactly as the call
 -- before left it"; `one` is how each is stepped.
-unfoldable pub ranFrom : (one : ℕ → List ℕ → After (Answer Figure)) → (s t : ℕ) → List ℕ → List ℕ → After RunAnswer
+unfoldable pub ranFrom : (one : ℕ → List ℕ → After (Report Figure)) → (s t : ℕ) → List ℕ → List ℕ → After RunAnswer
 ranFrom one s t [] b = record { answer = ran s t; bytes = b }
 ranFrom one s t (i ∷ is) b =
     let r = one i b in
-    cond (accepted (r .answer)) (ranFrom one (s + 1) t is (r .bytes)) (ranFrom one s (t + 1) is (r .bytes))
+    cond (accepted (r .answer .did)) (ranFrom one (s + 1) t is (r .bytes)) (ranFrom one s (t + 1) is (r .bytes))
 
 -- "6. The items expand to more than 65,536 steps.", then the board's own refusals
 unfoldable pub run : (is : List ℕ) → List ℕ → After RunAnswer

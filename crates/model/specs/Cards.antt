@@ -6,8 +6,9 @@ use mathlib.Core.Path.{_≡_}
 use Rattle.model.specs.Figure.{Figure, figures}
 use Rattle.model.specs.Listing.{Register, empty, filled, Turn, turnM, turnA, turnB, first, second, third, Seen}
 use Rattle.model.specs.Listing.{nothing, seen, Stage, writing, reading, has-decided, is-spent}
-use Rattle.model.specs.Listing.{Station, idle, active, Answer, read, went, decided, spent, refused, Move}
+use Rattle.model.specs.Listing.{Station, idle, active, read, went, decided, spent, Move}
 use Rattle.model.specs.Listing.{placeArray, placeColumn, stay, ended, finish, see, move}
+use Rattle.model.specs.Filled.{Report, refusal}
 use Rattle.model.specs.Layout.{boardLength, registerOf}
 use Rattle.model.specs.Calls.{After, ran, stations, islands, stationAt, putMove, lay, propose, step, run}
 use Rattle.model.specs.Runs.{after}
@@ -19,11 +20,13 @@ abbrev pub CardMove : Type 0
 CardMove = (n K : ℕ) → Stage Figure → (own : ℕ) → (ℕ → Register Figure) → Move Figure
 
 abbrev pub Card : Type 0
-Card = (i : ℕ) → List ℕ → After (Answer Figure)
+Card = (i : ℕ) → List ℕ → After (Report Figure)
 
-unfoldable pub movedBy : CardMove → (n K j : ℕ) → Station Figure → List ℕ → After (Answer Figure)
-movedBy card n K j idle b = record { answer = refused 14; bytes = b }
-movedBy card n K j (active v s) b = putMove n K j v s (card n K s j (λ q. registerOf n (placeArray s) q b)) b
+unfoldable pub movedBy : CardMove → (n K j : ℕ) → Station Figure → List ℕ → After (Report Figure)
+movedBy card n K j idle b = record { answer = refusal 14; bytes = b }
+movedBy card n K j (active v s) b =
+    putMove n K j v s (registerOf n (placeArray s) (placeColumn j s) b)
+    (card n K s j (λ q. registerOf n (placeArray s) q b)) b
 
 unfoldable pub by : CardMove → Card
 by card i b = movedBy card (stations b) (islands b) (i - 1) (stationAt i b) b
@@ -44,7 +47,7 @@ ending last n K (is-spent c x) own regs = listing n K (is-spent c x) own regs
 
 -- "refuses every call"
 unfoldable pub refusesAll : Card
-refusesAll i b = record { answer = refused 12; bytes = b }
+refusesAll i b = record { answer = refusal 12; bytes = b }
 
 -- "leaves the board idle"
 unfoldable pub leavesIdle : Card

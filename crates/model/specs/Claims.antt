@@ -12,6 +12,7 @@ use Rattle.model.specs.Listing.{Flag, flagNumber, Turn, turnM, turnA, tu
 use Rattle.model.specs.Listing.{Stage, writing, reading, has-decided, is-spent, Station, idle, active}
 use Rattle.model.specs.Listing.{Answer, wrote, read, went, marked, adopted, decided, spent, refused, accepted}
 use Rattle.model.specs.Listing.{placeArray, placeColumn, move}
+use Rattle.model.specs.Filled.{Report}
 use Rattle.model.specs.Layout.{registerOf, recordOf, stationOf}
 use Rattle.model.specs.Calls.{After, notRun, stations, islands, boardRefusal, lay, propose, step, run}
 use Rattle.model.specs.Rounds.{notPlayed, rounds}
@@ -22,7 +23,7 @@ use Rattle.model.specs.Proposals.{Proposal, AllFit, proposeAll}
 pub record Unaltered : Type 0 where
   pub laying : (n K : ℕ) (b : List ℕ) (k : ℕ) → lay n K b .answer ≡ some k → lay n K b .bytes ≡ b
   pub proposing : (i : ℕ) (v : Figure) (b : List ℕ) (k : ℕ) → propose i v b .answer ≡ some k → propose i v b .bytes ≡ b
-  pub stepping : (i : ℕ) (b : List ℕ) → accepted (step i b .answer) ≡ false → step i b .bytes ≡ b
+  pub stepping : (i : ℕ) (b : List ℕ) → accepted (step i b .answer .did) ≡ false → step i b .bytes ≡ b
   pub running : (is b : List ℕ) (k : ℕ) → run is b .answer ≡ notRun k → run is b .bytes ≡ b
   pub playing : (k : ℕ) (rs : List (List ℕ)) (b : List ℕ) (number : ℕ) → rounds k rs b .answer ≡ notPlayed number
       → rounds k rs b .bytes ≡ b
@@ -59,10 +60,10 @@ change (c ∷ cs) b = change cs (splice (c .offset) (c .content) b)
 
 -- what a step does to whatever board it is lent: its answer, and its changes in order
 pub record Effect : Type 0 where
-  pub answer : Answer Figure
+  pub answer : Report Figure
   pub changes : List Change
 
-unfoldable pub apply : Effect → List ℕ → After (Answer Figure)
+unfoldable pub apply : Effect → List ℕ → After (Report Figure)
 apply e b = record { answer = e .answer; bytes = change (e .changes) b }
 
 -- the register at the place that a station's next step touches; i is its index from 0

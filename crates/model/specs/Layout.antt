@@ -82,10 +82,10 @@ flagByte turnM = 0
 flagByte turnA = 0
 flagByte (turnB f) = flagNumber f
 
--- a record by its fields, in the order of its bytes
-abbrev pub asRecord : (phase position island seen highest flag : ℕ) (proposal carried best : Figure) (steps : ℕ)
+-- a record by its fields, its counts last
+abbrev pub asRecord : (phase position island seen highest flag : ℕ) (proposal carried best : Figure) (steps met : ℕ)
     → Record
-asRecord h p c g k f v x y s = record {
+asRecord h p c g k f v x y s m = record {
   phase = h;
   position = p;
   island = c;
@@ -96,26 +96,31 @@ asRecord h p c g k f v x y s = record {
   carried = x;
   best = y;
   steps = s;
+  met = m;
 }
 
--- where the steps stand among its bytes
+-- where the counts stand among its bytes
+abbrev pub metAt : ℕ
+metAt = 6
+
 abbrev pub stepsAt : ℕ
 stepsAt = 20
 
 -- "A record: byte 0 phase; 1 next position to read; 2 island c; 3 seen; 4 best island; 5 flag to write; 6–7 zero; 8–11
 -- proposal; 12–15 carried figure; 16–19 best figure"; 02: "bytes 20–21 hold the station's own accepted steps since its
--- proposal"; of 01's "20–23 zero" the bytes 22–23 are left
+-- proposal", "record byte 6 counts" the filled registers met; of 01's "6–7 zero" the byte 7 is left, of its "20–23
+-- zero" the bytes 22–23
 unfoldable pub readRecord : List ℕ → Record
 readRecord r =
     asRecord (byte r 0) (byte r 1) (byte r 2) (byte r 3) (byte r 4) (byte r 5)
-    (figure (part 8 4 r)) (figure (part 12 4 r)) (figure (part 16 4 r)) (number (part stepsAt 2 r))
+    (figure (part 8 4 r)) (figure (part 12 4 r)) (figure (part 16 4 r)) (number (part stepsAt 2 r)) (byte r metAt)
 
--- the bytes without a field: where they begin and how many they are, "6–7 zero" and 22–23 zero
+-- the bytes without a field: where they begin and how many they are, 7 and 22–23
 abbrev pub gapAt : ℕ
-gapAt = 6
+gapAt = 7
 
 abbrev pub gap : ℕ
-gap = 2
+gap = 1
 
 abbrev pub tailAt : ℕ
 tailAt = 22
@@ -126,7 +131,7 @@ tail = 2
 -- and the bytes of such fields
 unfoldable pub layRecord : Record → List ℕ
 layRecord f =
-    (f .phase ∷ f .position ∷ f .island ∷ f .seen ∷ f .highest ∷ f .flag ∷ 0 ∷ 0 ∷ [])
+    (f .phase ∷ f .position ∷ f .island ∷ f .seen ∷ f .highest ∷ f .flag ∷ f .met ∷ 0 ∷ [])
     ++ figureBytes (f .proposal) ++ figureBytes (f .carried) ++ figureBytes (f .best)
     ++ digits 2 (f .steps) ++ replicate tail 0
 
@@ -134,7 +139,7 @@ layRecord f =
 pub data Change : Type 0 where
   phaseIs positionIs islandIs seenIs highestIs flagIs : ℕ → Change
   proposalIs carriedIs bestIs : Figure → Change
-  stepsIs : ℕ → Change
+  stepsIs metIs : ℕ → Change
 
 -- Where it stands among the record's bytes, as laid above: a byte, a figure's four bytes, or a number's two, at an
 -- offset.
@@ -154,6 +159,7 @@ stored (proposalIs v) = figureAt 8 v
 stored (carriedIs x) = figureAt 12 x
 stored (bestIs y) = figureAt 16 y
 stored (stepsIs k) = pairAt stepsAt k
+stored (metIs k) = byteAt metAt k
 
 -- what the field at an offset holds afterwards, which held x before
 abbrev pub byteAfter : Stored → (offset x : ℕ) → ℕ
@@ -177,7 +183,7 @@ change s f =
     asRecord (byteAfter s 0 (f .phase)) (byteAfter s 1 (f .position)) (byteAfter s 2 (f .island))
     (byteAfter s 3 (f .seen)) (byteAfter s 4 (f .highest)) (byteAfter s 5 (f .flag))
     (figureAfter s 8 (f .proposal)) (figureAfter s 12 (f .carried)) (figureAfter s 16 (f .best))
-    (pairAfter s stepsAt (f .steps))
+    (pairAfter s stepsAt (f .steps)) (byteAfter s metAt (f .met))
 
 unfoldable pub changed : List Change → Record → Record
 changed [] f = f
@@ -202,9 +208,9 @@ fields phase p c a flag v x f =
     ∷ proposalIs v ∷ carriedIs x ∷ bestIs (bestFigure a) ∷ [])
     f
 
--- the record f with this number of steps
-abbrev pub withSteps : ℕ → Record → Record
-withSteps k f = changed (stepsIs k ∷ []) f
+-- the record f with this number of steps and of filled registers met
+abbrev pub withCounts : (steps met : ℕ) → Record → Record
+withCounts k m f = changed (stepsIs k ∷ metIs m ∷ []) f
 
 -- "Idle is all zero."
 unfoldable pub recordFields : Station Figure → Record → Record

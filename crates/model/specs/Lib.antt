@@ -2,6 +2,7 @@
 pub mod Kit
 pub mod Bytes
 pub mod Listing
+pub mod Filled
 pub mod Collects
 pub mod Figure
 pub mod BySize
@@ -24,6 +25,8 @@ pub mod Edges
 pub mod AnyList
 pub mod SheetList
 pub mod StepCount
+pub mod FilledCount
 pub mod Starred
 pub mod Cards
-pub mod StepBounds
+pub mod CountBounds
+pub mod FilledRuns

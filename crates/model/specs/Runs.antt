@@ -4,6 +4,7 @@ use Rattle.model.specs.Kit.{cond, List, [], _∷_, none, ℕ, _+_, _≤_
 use mathlib.Core.Path.{_≡_}
 use Rattle.model.specs.Figure.{Figure}
 use Rattle.model.specs.Listing.{Answer, accepted}
+use Rattle.model.specs.Filled.{Report}
 use Rattle.model.specs.Calls.{After, ran, boardRefusal, step, run}
 
 -- how many of the answers are no refusals
@@ -17,7 +18,7 @@ passed [] = 0
 passed (x ∷ xs) = cond (accepted x) 0 1 + passed xs
 
 -- steps one after another, each lent "the board exactly as the call before left it"; `one` is how each is taken
-module _ (one : ℕ → List ℕ → After (Answer Figure)) where
+module _ (one : ℕ → List ℕ → After (Report Figure)) where
   -- the board afterwards
   unfoldable pub after : List ℕ → List ℕ → List ℕ
   after b [] = b
@@ -26,7 +27,7 @@ module _ (one : ℕ → List ℕ → After (Answer Figure)) where
   -- the answers in order
   unfoldable pub answers : List ℕ → List ℕ → List (Answer Figure)
   answers b [] = []
-  answers b (i ∷ is) = one i b .answer ∷ answers (one i b .bytes) is
+  answers b (i ∷ is) = one i b .answer .did ∷ answers (one i b .bytes) is
 
 -- "S steps taken, T steps refused and passed over": a run that is not turned down counts the answers of its single
 -- steps, leaves the board that they leave, and S and T together are all of them.

@@ -52,7 +52,7 @@ module _ (phase : ℕ) (r : List ℕ) where
   unfoldable pub flagKnown : Bool
   flagKnown = cond (eqb phase 5 || eqb phase 6) (eqb (byte r 5) 1 || eqb (byte r 5) 2) (eqb (byte r 5) 0)
 
-  -- "6–7 zero", and of "20–23 zero" the bytes that are left, 22–23
+  -- of "6–7 zero" and "20–23 zero" the bytes that are left, 7 and 22–23
   unfoldable pub restZero : Bool
   restZero = zeros (part gapAt gap r) && zeros (part tailAt tail r)
 
@@ -135,6 +135,17 @@ mostSteps n (active v s) = 3 * (n + 1) * islandOf s + presentPass n s
 unfoldable pub stepsKept : (n steps : ℕ) → Station Figure → Bool
 stepsKept n steps s = leb steps (mostSteps n s)
 
+-- 02, of the filled registers met: "never above the position, zero elsewhere"
+unfoldable pub mostMet : Station Figure → ℕ
+mostMet idle = 0
+mostMet (active v (writing t c x)) = 0
+mostMet (active v (reading t c x p a)) = p
+mostMet (active v (has-decided c x)) = 0
+mostMet (active v (is-spent c x)) = 0
+
+unfoldable pub metKept : (met : ℕ) → Station Figure → Bool
+metKept met s = leb met (mostMet s)
+
 -- all clauses on a record alone
 unfoldable pub fieldsSound : (n K phase : ℕ) → List ℕ → Bool
 fieldsSound n K phase r =
@@ -143,12 +154,13 @@ fieldsSound n K phase r =
     && restZero phase r && idleZero phase r && collectZero phase r && bestIslandZero phase r && bestZero phase r
     && seenKnown phase r
 
--- and on its station's own register and steps
+-- and on its station's own register and its counts
 unfoldable pub recordSound : (n K i : ℕ) → (b r : List ℕ) → Bool
 recordSound n K i b r =
     let f = readRecord r in
     let s = recordValue f in
     fieldsSound n K (byte r 0) r && ownWritten n i b s && ownPassed i s && stepsKept n (f .steps) s
+    && metKept (f .met) s
 
 -- "A board that keeps all this is sound"; n and K are its own and its length fits them.
 unfoldable pub sound : (n K : ℕ) → List ℕ → Bool

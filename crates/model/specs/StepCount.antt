@@ -21,7 +21,7 @@ use Rattle.model.specs.SheetList.{playLines, boardOf, linesCalls, AllSta
 unfoldable pub stepsBy : (i : ℕ) → Call → List ℕ → ℕ
 stepsBy i (laying n K) b = 0
 stepsBy i (proposing j v) b = 0
-stepsBy i (stepping j) b = cond (eqb i j && accepted (step j b .answer)) 1 0
+stepsBy i (stepping j) b = cond (eqb i j && accepted (step j b .answer .did)) 1 0
 
 unfoldable pub stepsIn : (i : ℕ) → List Call → List ℕ → ℕ
 stepsIn i [] b = 0

@@ -1,6 +1,6 @@
 -- What each case of a declared answer says: 01's kind and values, or its refusal number.
 -- Relies on the declared types and the answers of the definitions; every contract of a call relies on it.
-use Rattle.model.specs.Kit.{none, some}
+use Rattle.model.specs.Kit.{cond, none, some}
 use Rattle.model.specs.declared.StepAnswer.{StepAnswer}
 use Rattle.model.specs.declared.StepAnswer.the-variants.{Wrote, Read, Went, Marked, Adopted, Decided, Spent}
 use Rattle.model.specs.declared.StepAnswer.the-variants.{Refused}
@@ -16,23 +16,24 @@ use Rattle.model.specs.declared.StandingAnswer as answers
 use Rattle.model.specs.declared.StandingAnswer.the-variants as answer
 use Rattle.model.specs.declared.ShownLine.{ShownLine}
 use Rattle.model.specs.Figure.{Figure}
-use Rattle.model.specs.Listing.{Answer, wrote, read, went, marked, adopted, decided, spent, refused}
+use Rattle.model.specs.Listing.{wrote, read, went, marked, adopted, decided, spent}
+use Rattle.model.specs.Filled.{Report, refusal}
 use Rattle.model.specs.Calls.{Refusal, RunAnswer, ran, notRun}
 use Rattle.model.specs.Rounds.{RoundsAnswer, played, notPlayed}
 use Rattle.model.specs.Standing.{Standing, stands-idle, stands-going, stands-decided, stands-spent}
 use Rattle.model.specs.Standing.{StandingAnswer, stands, notTold}
 use Rattle.model.specs.Show.{Shown}
 
--- "It answers with its kind and fields"; a flag is "1 adopt or 2 commit"
-unfoldable pub told : StepAnswer → Answer Figure
-told Wrote = wrote
-told Read = read
-told (Went c v) = went c v
-told (Marked f v) = marked f v
-told (Adopted c v) = adopted c v
-told (Decided c v) = decided c v
-told (Spent c v) = spent c v
-told (Refused k) = refused k
+-- "It answers with its kind and fields"; a flag is "1 adopt or 2 commit"; 02: "the total as a last field"
+unfoldable pub told : StepAnswer → Report Figure
+told Wrote = record { did = wrote; met = 0 }
+told (Read filled) = record { did = read; met = cond filled 1 0 }
+told (Went c v k) = record { did = went c v; met = k }
+told (Marked f v k) = record { did = marked f v; met = k }
+told (Adopted c v k) = record { did = adopted c v; met = k }
+told (Decided c v k) = record { did = decided c v; met = k }
+told (Spent c v k) = record { did = spent c v; met = k }
+told (Refused k) = refusal k
 
 -- "A refusal answers its number only"
 unfoldable pub verdict : Verdict → Refusal

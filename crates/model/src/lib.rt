@@ -10,7 +10,8 @@ pub struct Register {
     pub figure: i32,
 }
 
-// A station's record by its fields, in the order of its bytes; `highest` is the best island.
+// A station's record by its fields: those that tell how it stands in the order of their bytes, then its two counts;
+// `highest` is the best island.
 pub struct Record {
     pub phase: u8,
     pub position: u8,
@@ -22,18 +23,20 @@ pub struct Record {
     pub carried: i32,
     pub best: i32,
     pub steps: u16,
+    pub met: u8,
 }
 
-// What a step answers: "its kind and fields". A flag is 1 for adopt and 2 for commit.
+// What a step answers: "its kind and fields". A flag is 1 for adopt and 2 for commit, a total the number of filled registers
+// that the collect met.
 // specs/Told.antt gives the meaning of each case; contracts speak through it.
 pub enum StepAnswer {
     Wrote,
-    Read,
-    Went { island: u8, figure: i32 },
-    Marked { flag: u8, figure: i32 },
-    Adopted { island: u8, figure: i32 },
-    Decided { island: u8, figure: i32 },
-    Spent { island: u8, figure: i32 },
+    Read { filled: bool },
+    Went { island: u8, figure: i32, total: u8 },
+    Marked { flag: u8, figure: i32, total: u8 },
+    Adopted { island: u8, figure: i32, total: u8 },
+    Decided { island: u8, figure: i32, total: u8 },
+    Spent { island: u8, figure: i32, total: u8 },
     Refused { number: u8 },
 }
 

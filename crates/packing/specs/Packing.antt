@@ -12,6 +12,7 @@ use Rattle.model.specs.declared.StandingAnswer as told
 use Rattle.model.specs.declared.StandingAnswer.the-variants as byCall
 use Rattle.model.specs.Figure.{Figure}
 use Rattle.model.specs.Listing.{Answer, wrote, read, went, marked, adopted, decided, spent, refused}
+use Rattle.model.specs.Filled.{Report}
 use Rattle.model.specs.Calls.{Refusal, RunAnswer, ran, notRun}
 use Rattle.model.specs.Rounds.{RoundsAnswer, played, notPlayed}
 use Rattle.model.specs.Standing.{Standing, stands-idle, stands-going, stands-decided, stands-spent}
@@ -35,15 +36,19 @@ packVerdict (some k) = k
 abbrev pub packed : (number kind field figure : ℕ) → ℕ
 packed = packedAt 65536
 
-unfoldable pub packStep : Answer Figure → ℕ
-packStep wrote = packed 0 1 0 0
-packStep read = packed 0 2 0 0
-packStep (went c v) = packed 0 3 c (bits v)
-packStep (marked f v) = packed 0 4 f (bits v)
-packStep (adopted c v) = packed 0 5 c (bits v)
-packStep (decided c v) = packed 0 6 c (bits v)
-packStep (spent c v) = packed 0 7 c (bits v)
-packStep (refused k) = packed k 0 0 0
+unfoldable pub packAnswer : Answer Figure → ℕ
+packAnswer wrote = packed 0 1 0 0
+packAnswer read = packed 0 2 0 0
+packAnswer (went c v) = packed 0 3 c (bits v)
+packAnswer (marked f v) = packed 0 4 f (bits v)
+packAnswer (adopted c v) = packed 0 5 c (bits v)
+packAnswer (decided c v) = packed 0 6 c (bits v)
+packAnswer (spent c v) = packed 0 7 c (bits v)
+packAnswer (refused k) = packed k 0 0 0
+
+-- and 24 to 31 whether a read met a filled register, or the total of a collect that ended
+unfoldable pub packStep : Report Figure → ℕ
+packStep r = packAnswer (r .did) + r .met * 16777216
 
 -- a run's counts have room in their bits
 unfoldable pub Few : RunVerdict → Type 0

@@ -1,9 +1,10 @@
 // Answers packed into one number.
 // Relies on a figure's bits; the calls for C rely on it.
 ghost use mathlib.Core.Path.{_≡_};
-ghost use Prim.Native.Nat.{_≤_};
+ghost use mathlib.Core.Bool.{cond};
+ghost use Prim.Native.Nat.{_+_, _*_, _≤_};
 ghost use Rattle.model.specs.Told.{told, verdict, runTold, roundsTold, standingTold, standingAnswered};
-ghost use Rattle.packing.specs.Packing.{bits, packedAt, packVerdict, packStep, packRun, packRounds, packStanding};
+ghost use Rattle.packing.specs.Packing.{bits, packedAt, packed, packVerdict, packStep, packRun, packRounds, packStanding};
 ghost use Rattle.packing.specs.Packing.{packWord, standingPart, Few, FewRounds, FewSteps};
 use figures::bits_of;
 use model::RoundsVerdict;
@@ -36,17 +37,54 @@ fn packed_at(place: u32, kind: u8, field: u8, figure: i32) -> u64
     kind as u64 * 256 + field as u64 * place as u64 + bits_of(figure) as u64 * 4294967296
 }
 
+// A read and whether its register was filled.
+fn read_number(filled: bool) -> u64
+    ensures { λ r. ⌜ r ≡ 512 + cond filled 1 0 * 16777216 ⌝ }
+{
+    if filled {
+        return 16777728;
+    }
+    512
+}
+
+// A step that ends a collect, with the collect's total.
+fn end_number(kind: u8, field: u8, figure: i32, total: u8) -> u64
+    ensures { λ r. ⌜ r ≡ packed 0 kind field (bits figure) + total * 16777216 ⌝ }
+{
+    packed_at(STEP_FIELD, kind, field, figure) + total as u64 * 16777216
+}
+
 pub fn step_number(answer: StepAnswer) -> u64
     ensures { λ r. ⌜ r ≡ packStep (told answer) ⌝ }
 {
     match answer {
         StepAnswer::Wrote => 256,
-        StepAnswer::Read => 512,
-        StepAnswer::Went { island, figure } => packed_at(STEP_FIELD, 3, island, figure),
-        StepAnswer::Marked { flag, figure } => packed_at(STEP_FIELD, 4, flag, figure),
-        StepAnswer::Adopted { island, figure } => packed_at(STEP_FIELD, 5, island, figure),
-        StepAnswer::Decided { island, figure } => packed_at(STEP_FIELD, 6, island, figure),
-        StepAnswer::Spent { island, figure } => packed_at(STEP_FIELD, 7, island, figure),
+        StepAnswer::Read { filled } => read_number(filled),
+        StepAnswer::Went {
+            island,
+            figure,
+            total,
+        } => end_number(3, island, figure, total),
+        StepAnswer::Marked {
+            flag,
+            figure,
+            total,
+        } => end_number(4, flag, figure, total),
+        StepAnswer::Adopted {
+            island,
+            figure,
+            total,
+        } => end_number(5, island, figure, total),
+        StepAnswer::Decided {
+            island,
+            figure,
+            total,
+        } => end_number(6, island, figure, total),
+        StepAnswer::Spent {
+            island,
+            figure,
+            total,
+        } => end_number(7, island, figure, total),
         StepAnswer::Refused { number } => number as u64,
     }
 }

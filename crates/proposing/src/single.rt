@@ -3,7 +3,7 @@
 ghost use mathlib.Core.Path.{_≡_};
 ghost use mathlib.Core.Option.{none};
 ghost use Rattle.model.specs.Listing.{proposed};
-ghost use Rattle.model.specs.Layout.{recordFields, withSteps};
+ghost use Rattle.model.specs.Layout.{recordFields, withCounts};
 ghost use Rattle.model.specs.Calls.{boardRefusal, proposalRefusal, propose};
 ghost use Rattle.model.specs.Told.{verdict};
 ghost use Rattle.soundness.specs.Shaped.{numbered};
@@ -23,10 +23,10 @@ use soundness::place::station_place;
 // The refusal of a station that has proposed.
 const NOT_IDLE: u8 = 13;
 
-// "phase 1, c = 0, proposal and carried = the figure", and no step taken since. Each field is set, so that nothing need be
+// "phase 1, c = 0, proposal and carried = the figure", no step taken since and nothing met. Each field is set, so that nothing need be
 // known of the record that stood there.
 fn beginning(station: Record, figure: i32) -> Record
-    ensures { λ r. ⌜ r ≡ recordFields (proposed figure) (withSteps 0 station) ⌝ }
+    ensures { λ r. ⌜ r ≡ recordFields (proposed figure) (withCounts 0 0 station) ⌝ }
 {
     let mut next = station;
     next.phase = WRITE_M;
@@ -39,6 +39,7 @@ fn beginning(station: Record, figure: i32) -> Record
     next.carried = figure;
     next.best = 0;
     next.steps = 0;
+    next.met = 0;
     next
 }
 

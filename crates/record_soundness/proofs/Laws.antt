@@ -4,4 +4,4 @@ pub mod Clauses
 pub mod Held
 pub mod Own
 pub mod Records
-pub mod Steps
+pub mod Counts

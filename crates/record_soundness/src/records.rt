@@ -1,14 +1,15 @@
-// The records of a board: each one's fields, its steps, and its own register.
-// Relies on fields, steps, own and codec's records; the board's test relies on it.
+// The records of a board: each one's fields, its counts, and its own register.
+// Relies on fields, counts, own and codec's records; the board's test relies on it.
 ghost use mathlib.Core.Path.{_≡_};
 ghost use Prim.Native.Nat.{_+_, _≤_, _<_};
 ghost use lib.ListN.{length};
 ghost use Rattle.model.specs.Bytes.{part, zeros, every};
 ghost use Rattle.model.specs.Layout.{boardLength, recordAt, recordOf};
 ghost use Rattle.model.specs.Sound.{recordSound};
+use crate::counts::met_sound;
+use crate::counts::steps_sound;
 use crate::fields::fields_sound;
 use crate::own::own_sound;
-use crate::steps::steps_sound;
 use codec::places::record_offset;
 use codec::records::record_at;
 use figures::zeros::zero_cell;
@@ -36,7 +37,7 @@ fn record_sound(s: &[u8], at: usize, n: usize, k: usize, i: usize) -> bool
     if s[at] == IDLE {
         return idle_sound(s, at);
     }
-    if !zero_pair(s, at + 6) {
+    if s[at + 7] != 0 {
         return false;
     }
     if !zero_pair(s, at + 22) {
@@ -44,6 +45,9 @@ fn record_sound(s: &[u8], at: usize, n: usize, k: usize, i: usize) -> bool
     }
     let f = record_at(s, at);
     if !fields_sound(f, n, k) {
+        return false;
+    }
+    if !met_sound(f) {
         return false;
     }
     if !steps_sound(f, n) {

@@ -10,11 +10,13 @@ use Rattle.model.specs.declared.Record.{Record}
 use Rattle.model.specs.declared.StepAnswer.{StepAnswer}
 use Rattle.model.specs.Bytes.{part}
 use Rattle.model.specs.Figure.{Figure, figures}
-use Rattle.model.specs.Listing.{Stage, active, placeArray, placeColumn, accepted, Move, move}
+use Rattle.model.specs.Listing.{Register, Stage, active, placeArray, placeColumn, accepted, Move, move}
+use Rattle.model.specs.Filled.{filledIn, metWith, metKeptAt, report}
 use Rattle.model.specs.Layout.{boardLength, registerAt, recordAt, layRecord, recordFields, recordValue, registerOf}
 use Rattle.model.specs.Calls.{putRecord, putRegister, boardRefusal, stepOn}
 use Rattle.model.specs.Told.{told}
 use Rattle.model.specs.Runs.{taken, answers, after}
+use Rattle.archipelago.specs.Advanced.{meeting}
 use Rattle.soundness.specs.Placed.{On}
 
 -- the offset r of the one register that station index j touches next
@@ -22,17 +24,29 @@ unfoldable pub Touches : (n j : ℕ) (f : Record) (r : ℕ) → Type 0
 Touches n j f r =
     (s : Stage Figure) → recordValue f ≡ active (f .proposal) s → r ≡ registerAt n (placeArray s) (placeColumn j s)
 
--- the listing's move of station index j, at stage s, over the one register that it touches on the board b
-abbrev pub moveOn : (n K j : ℕ) → Stage Figure → List ℕ → Move Figure
-moveOn n K j s b = move figures n K s (registerOf n (placeArray s) (placeColumn j s) b)
+-- the one register that station index j, at stage s, touches on the board b, and the listing's move over it
+abbrev pub registerOn : (n j : ℕ) → Stage Figure → List ℕ → Register Figure
+registerOn n j s b = registerOf n (placeArray s) (placeColumn j s) b
 
--- the answer r and the bytes d that this move gives: its register, and its record, in which the steps are as they were
+abbrev pub moveOn : (n K j : ℕ) → Stage Figure → List ℕ → Move Figure
+moveOn n K j s b = move figures n K s (registerOn n j s b)
+
+-- the filled registers that the collect of the record f has met with that access, and the record that the move leaves,
+-- in which the steps are as they were
+abbrev pub totalOn : (n j : ℕ) → Record → Stage Figure → List ℕ → ℕ
+totalOn n j f s b = metWith s (registerOn n j s b) (f .met)
+
+abbrev pub recordOn : (n K j : ℕ) → Record → Stage Figure → List ℕ → Record
+recordOn n K j f s b =
+    let m = moveOn n K j s b in
+    recordFields (active (f .proposal) (m .stage)) (meeting (metKeptAt (m .stage) (totalOn n j f s b)) f)
+
+-- the answer r and the bytes d that this move gives: its register, and its record
 unfoldable pub Accesses : (n K j : ℕ) (f : Record) (b : List ℕ) (r : StepAnswer) (d : List ℕ) → Type 0
 Accesses n K j f b r d =
     (s : Stage Figure) → recordValue f ≡ active (f .proposal) s → let m = moveOn n K j s b in
-    (told r ≡ m .answer)
-    × (d ≡ putRecord n K j (recordFields (active (f .proposal) (m .stage)) f)
-    (putRegister n (placeArray s) j (m .written) b))
+    (told r ≡ report (m .answer) (filledIn (registerOn n j s b)) (totalOn n j f s b))
+    × (d ≡ putRecord n K j (recordOn n K j f s b) (putRegister n (placeArray s) j (m .written) b))
 
 -- the size of a board and a station index on it
 pub record OnSize (n K j : ℕ) (b : List ℕ) : Type 0 where
@@ -59,7 +73,7 @@ StepsOn i b r d = (told r ≡ stepOn i b .answer) × (d ≡ stepOn i b .bytes)
 
 -- whether that step was taken, r, and its bytes d
 unfoldable pub TakesOn : (i : ℕ) (b : List ℕ) (r : Bool) (d : List ℕ) → Type 0
-TakesOn i b r d = (r ≡ accepted (stepOn i b .answer)) × (d ≡ stepOn i b .bytes)
+TakesOn i b r d = (r ≡ accepted (stepOn i b .answer .did)) × (d ≡ stepOn i b .bytes)
 
 -- the steps r taken by the stations `is` one after another on a sound board b, and the bytes d afterwards
 unfoldable pub RunsOn : (is b : List ℕ) (r : ℕ) (d : List ℕ) → Type 0

@@ -1,7 +1,7 @@
 //! Which calls are compared: every kind of call on fresh, reached, sound, damaged and hostile boards, lists of calls and
 //! long runs. `round_batches` has what is made of rounds alone, `pair_batches` what is made of figures put in
-//! together, `count_batches` what is made of counted steps, `order_batches` what is made of figures beside each other,
-//! `line_batches` the lines of sheets.
+//! together, `count_batches` what is made of counted steps, `filled_batches` what is made of counted registers,
+//! `order_batches` what is made of figures beside each other, `line_batches` the lines of sheets.
 
 use crate::boards;
 use crate::bytes::length;
@@ -9,6 +9,7 @@ use crate::compare::{Call, Compare};
 use crate::count_batches::SIZES;
 use crate::engine::SHOWN;
 use crate::figure::EDGES;
+use crate::filled_batches::FILLED_SIZES;
 use crate::halts::ROUND_END;
 use crate::lent::{pattern, Lent};
 use crate::lists;
@@ -213,6 +214,7 @@ impl Compare<'_> {
     pub fn batch(&mut self, seed: u64) {
         self.patterns = Random::new(!seed);
         self.driven(seed);
+        self.recounted(seed);
         for part in 0..8 {
             self.listed_runs(seed.wrapping_mul(64) + part);
             self.runs(seed.wrapping_mul(64) + part);
@@ -225,6 +227,7 @@ impl Compare<'_> {
         for part in 0..6 {
             self.sound_board(seed.wrapping_mul(64) + part);
             self.damaged_board(seed.wrapping_mul(64) + 32 + part);
+            self.filled_board(seed.wrapping_mul(64) + 40 + part);
             self.counted_board(seed.wrapping_mul(64) + 48 + part);
             self.ordered_board(seed.wrapping_mul(64) + 56 + part);
         }
@@ -234,18 +237,24 @@ impl Compare<'_> {
             self.words(seed);
         }
         if seed % 256 == 0 {
-            self.each_byte(seed);
-            self.longest_runs(seed);
-            self.short_lists(seed);
-            self.many_rounds(seed);
-            self.each_fault(seed);
-            self.each_repeat(seed);
-            self.each_number(seed);
-            self.many_pairs(seed);
-            SIZES.iter().for_each(|size| self.every_tail(seed, *size));
-            self.most_counted(seed);
-            EDGES.iter().for_each(|figure| self.every_pair(seed, *figure));
+            self.large_batch(seed);
         }
+    }
+
+    /// What has so many calls that it is made now and then.
+    fn large_batch(&mut self, seed: u64) {
+        self.each_byte(seed);
+        self.longest_runs(seed);
+        self.short_lists(seed);
+        self.many_rounds(seed);
+        self.each_fault(seed);
+        self.each_repeat(seed);
+        self.each_number(seed);
+        self.many_pairs(seed);
+        SIZES.iter().for_each(|size| self.every_tail(seed, *size));
+        self.most_counted(seed);
+        FILLED_SIZES.iter().for_each(|size| self.every_filled(seed, *size));
+        EDGES.iter().for_each(|figure| self.every_pair(seed, *figure));
     }
 }
 

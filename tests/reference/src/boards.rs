@@ -88,18 +88,29 @@ fn record(r: &mut Random, who: usize, k: u8, place: Place) -> Record {
     let passed = next as usize > who;
     let most = phase as usize / 2;
     let seen = r.between(passed as usize, most) as u8;
+    let begun = Record { next, met: met(r, next), ..plain };
     if seen == 0 {
-        return Record { next, ..plain };
+        return begun;
     }
     let best_island = if phase == 2 { r.below(k as usize) as u8 } else { 0 };
     let drawn = (best_island, Figure::of(r.figure()));
-    let wrote = Figure::of(plain.carried);
+    let wrote = Figure::of(begun.carried);
     let (best_island, best) = match phase {
         2 if passed => drawn.max((island, wrote)),
         4 if passed => drawn.max((0, wrote)),
         _ => drawn,
     };
-    Record { next, seen, best_island, best: best.number(), ..plain }
+    Record { seen, best_island, best: best.number(), ..begun }
+}
+
+/// Filled registers that soundness allows a collect to have met before this position, whatever it has seen: often at its
+/// ends.
+fn met(r: &mut Random, next: u8) -> u8 {
+    match r.below(4) {
+        0 => 0,
+        1 | 2 => next,
+        _ => r.between(0, next as usize) as u8,
+    }
 }
 
 /// A count of steps that soundness allows: often at its ends, or where the low byte is full.

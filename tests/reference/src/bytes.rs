@@ -24,7 +24,9 @@ pub struct Record {
     pub seen: u8,
     pub best_island: u8,
     pub flag: u8,
-    pub zeros: [u8; 2],
+    /// Filled registers that the present collect has met.
+    pub met: u8,
+    pub zero: u8,
     pub proposal: i32,
     pub carried: i32,
     pub best: i32,
@@ -83,7 +85,8 @@ impl Front<'_> {
             seen: self.byte(),
             best_island: self.byte(),
             flag: self.byte(),
-            zeros: self.take(),
+            met: self.byte(),
+            zero: self.byte(),
             proposal: self.figure(),
             carried: self.figure(),
             best: self.figure(),
@@ -131,8 +134,7 @@ fn put_cell(out: &mut Vec<u8>, c: &Cell) {
 }
 
 fn put_record(out: &mut Vec<u8>, r: &Record) {
-    out.extend([r.phase, r.next, r.island, r.seen, r.best_island, r.flag]);
-    out.extend(r.zeros);
+    out.extend([r.phase, r.next, r.island, r.seen, r.best_island, r.flag, r.met, r.zero]);
     out.extend(r.proposal.to_le_bytes());
     out.extend(r.carried.to_le_bytes());
     out.extend(r.best.to_le_bytes());
@@ -205,7 +207,7 @@ fn summary(array: Array, heard: &[Entry]) -> (u8, u8, i32) {
 fn station(r: &Record) -> Station {
     let life = Life { proposal: r.proposal, island: r.island, carried: r.carried };
     let flag = if r.flag == 2 { Mark::Commit } else { Mark::Adopt };
-    let collect = |array| Collect { next: r.next as usize, heard: heard(array, r) };
+    let collect = |array| Collect { next: r.next as usize, heard: heard(array, r), met: r.met };
     match r.phase {
         0 => Station::Idle,
         1 => Station::WriteM(life),
@@ -239,7 +241,7 @@ fn plain(phase: u8, l: &Life) -> Record {
 
 fn reading(r: Record, array: Array, c: &Collect) -> Record {
     let (seen, best_island, best) = summary(array, &c.heard);
-    Record { next: c.next as u8, seen, best_island, best, ..r }
+    Record { next: c.next as u8, seen, best_island, met: c.met, best, ..r }
 }
 
 /// The values that a sound board means.

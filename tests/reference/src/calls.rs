@@ -23,7 +23,7 @@ fn counts(n: u8, k: u8) -> Result<(), Refusal> {
 }
 
 /// 7 to 10, with n and K as given, or else from the head.
-fn measured(board: &[u8], given: Option<(u8, u8)>) -> Result<(), Refusal> {
+pub fn measured(board: &[u8], given: Option<(u8, u8)>) -> Result<(), Refusal> {
     if board.len() < 8 {
         return Err(Refusal::BoardTooShort);
     }

@@ -30,6 +30,8 @@ pub struct Counts {
     /// Those that were put in together.
     pub pairs: u64,
     pub single_steps: u64,
+    /// Collects whose totals were counted once more from the boards that were lent.
+    pub totals: u64,
     pub run_steps: u64,
     pub rounds: u64,
     pub standings: u64,

@@ -13,28 +13,63 @@ pub const SHOWN: usize = calls::LONGEST_SHOW;
 
 /// Every buffer is lent so that it could be written, also where a call may only read it: whoever writes there is found.
 pub trait Engine {
+    /// Whose calls those are that this engine does not write out, such as those that a wrong one has right.
+    fn rest(&self) -> &dyn Engine;
+
     /// 0 or the refusal's number.
-    fn lay(&self, board: &mut [u8], n: u8, k: u8) -> u8;
-    fn propose(&self, board: &mut [u8], station: u8, figure: i32) -> u8;
+    fn lay(&self, board: &mut [u8], n: u8, k: u8) -> u8 {
+        self.rest().lay(board, n, k)
+    }
+
+    fn propose(&self, board: &mut [u8], station: u8, figure: i32) -> u8 {
+        self.rest().propose(board, station, figure)
+    }
+
     /// Each number is a pair: bits 0–7 the station, 32–63 the figure.
-    fn propose_all(&self, board: &mut [u8], pairs: &mut [u64]) -> u8;
-    fn check(&self, board: &mut [u8]) -> u8;
-    /// Bits 0–7 refusal, 8–15 kind, 16–23 island or flag, 32–63 figure.
-    fn step(&self, board: &mut [u8], station: u8) -> u64;
+    fn propose_all(&self, board: &mut [u8], pairs: &mut [u64]) -> u8 {
+        self.rest().propose_all(board, pairs)
+    }
+
+    fn check(&self, board: &mut [u8]) -> u8 {
+        self.rest().check(board)
+    }
+
+    /// Bits 0–7 refusal, 8–15 kind, 16–23 island or flag, 24–31 whether the register was filled, or the total, 32–63 figure.
+    fn step(&self, board: &mut [u8], station: u8) -> u64 {
+        self.rest().step(board, station)
+    }
+
     /// Bits 0–7 refusal, 8–11 how the station stands, 12–19 island, 20–31 steps, 32–63 figure.
-    fn standing(&self, board: &mut [u8], station: u8) -> u64;
+    fn standing(&self, board: &mut [u8], station: u8) -> u64 {
+        self.rest().standing(board, station)
+    }
+
     /// Bits 0–7 refusal, 8–31 taken, 32–55 passed over.
-    fn run(&self, board: &mut [u8], stations: &mut [u8]) -> u64;
+    fn run(&self, board: &mut [u8], stations: &mut [u8]) -> u64 {
+        self.rest().run(board, stations)
+    }
+
     /// Bits 0–7 refusal, 8–15 stations decided, 16–47 rounds played. All bits are 1 where the list's length has more
     /// than 32 bits.
-    fn rounds(&self, board: &mut [u8], most: u8, named: &mut [u8]) -> u64;
+    fn rounds(&self, board: &mut [u8], most: u8, named: &mut [u8]) -> u64 {
+        self.rest().rounds(board, most, named)
+    }
+
     /// Bits 0–7 refusal, 16–31 length; the line has zeros after its end. All bits are 1 where it has no room.
-    fn show(&self, board: &mut [u8], line: &mut [u8]) -> u32;
+    fn show(&self, board: &mut [u8], line: &mut [u8]) -> u32 {
+        self.rest().show(board, line)
+    }
+
     /// Bits 0–31 where the word starts, 32–63 its length; 0 with no word.
-    fn word(&self, line: &mut [u8]) -> u64;
+    fn word(&self, line: &mut [u8]) -> u64 {
+        self.rest().word(line)
+    }
+
     /// Bits 0–15 the length of what is printed, without its LF, 16–63 how much is laid afterwards; what is printed has
     /// zeros after its end. All bits are 1 where it has no room or `laid` has more than 32 bits.
-    fn play_line(&self, line: &mut [u8], laid: usize, memory: &mut [u8], printed: &mut [u8]) -> u64;
+    fn play_line(&self, line: &mut [u8], laid: usize, memory: &mut [u8], printed: &mut [u8]) -> u64 {
+        self.rest().play_line(line, laid, memory, printed)
+    }
 }
 
 pub struct Reference;
@@ -43,23 +78,23 @@ fn number(result: Result<(), Refusal>) -> u8 {
     result.map_or_else(Refusal::number, |()| 0)
 }
 
-fn packed(kind: u64, place: u8, figure: i32) -> u64 {
-    kind << 8 | (place as u64) << 16 | (figure as u32 as u64) << 32
+fn packed(kind: u64, place: u8, figure: i32, met: u8) -> u64 {
+    kind << 8 | (place as u64) << 16 | (met as u64) << 24 | (figure as u32 as u64) << 32
 }
 
 pub fn packed_answer(answer: Answer) -> u64 {
     match answer {
-        Answer::Wrote => packed(1, 0, 0),
-        Answer::Read => packed(2, 0, 0),
-        Answer::Went(c, v) => packed(3, c, v),
-        Answer::Marked(flag, v) => packed(4, mark_byte(flag), v),
-        Answer::Adopted(c, v) => packed(5, c, v),
-        Answer::Decided(c, v) => packed(6, c, v),
-        Answer::Spent(c, v) => packed(7, c, v),
+        Answer::Wrote => packed(1, 0, 0, 0),
+        Answer::Read(filled) => packed(2, 0, 0, filled as u8),
+        Answer::Went(c, v, total) => packed(3, c, v, total),
+        Answer::Marked(flag, v, total) => packed(4, mark_byte(flag), v, total),
+        Answer::Adopted(c, v, total) => packed(5, c, v, total),
+        Answer::Decided(c, v, total) => packed(6, c, v, total),
+        Answer::Spent(c, v, total) => packed(7, c, v, total),
     }
 }
 
-fn packed_standing((standing, steps): (Standing, u16)) -> u64 {
+pub fn packed_standing((standing, steps): (Standing, u16)) -> u64 {
     let (kind, island, figure) = match standing {
         Standing::Idle => (1, 0, 0),
         Standing::Going(c, v) => (2, c, v),
@@ -77,6 +112,10 @@ fn handed(text: &str, buffer: &mut [u8]) {
 }
 
 impl Engine for Reference {
+    fn rest(&self) -> &dyn Engine {
+        unreachable!("it writes every call out")
+    }
+
     fn lay(&self, board: &mut [u8], n: u8, k: u8) -> u8 {
         number(calls::lay(board, n, k))
     }
@@ -183,6 +222,10 @@ mod linked {
 
     // Each call lends memory that this side owns for the length of the call, with its true length.
     impl Engine for Linked {
+        fn rest(&self) -> &dyn Engine {
+            unreachable!("it writes every call out")
+        }
+
         fn lay(&self, board: &mut [u8], n: u8, k: u8) -> u8 {
             unsafe { lufanelis_lay(board.as_mut_ptr(), board.len(), n, k) }
         }

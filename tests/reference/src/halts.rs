@@ -62,7 +62,7 @@ impl World {
     /// A write, and reads until the collect is over.
     fn whole_step(&mut self, who: usize) {
         assert_eq!(self.step(who), Ok(Answer::Wrote), "nobody stands in a collect");
-        while self.step(who) == Ok(Answer::Read) {}
+        while matches!(self.step(who), Ok(Answer::Read(_))) {}
     }
 
     pub fn round(&mut self, suspended: &[u8]) {

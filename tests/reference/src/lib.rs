@@ -3,8 +3,8 @@
 //! `model` has the two algorithms of the listing on values: a register is an `Option`, a collect is the list of what
 //! was read. `figure` has the order of figures. `bytes` turns a board of bytes into fields and fields into values, and
 //! back. `sound` lists the clauses of soundness, `halts` has the rounds in which stations are suspended, `pairs` the figures
-//! that are put in together. `calls` are the library's calls, `sheet` the program's. The rest makes boards and sheets to
-//! compare.
+//! that are put in together. `calls` are the library's calls, `sheet` the program's. `on_values` is what wrong engines are
+//! made of, which a comparison must find. The rest makes boards, lists and sheets to compare.
 
 pub mod batches;
 pub mod boards;
@@ -15,6 +15,7 @@ pub mod count_batches;
 pub mod edges;
 pub mod engine;
 pub mod figure;
+pub mod filled_batches;
 pub mod habits;
 pub mod halts;
 pub mod lent;
@@ -22,6 +23,7 @@ pub mod line_batches;
 pub mod lists;
 pub mod made_lists;
 pub mod model;
+pub mod on_values;
 pub mod order_batches;
 pub mod order_edges;
 pub mod pair_batches;
@@ -31,6 +33,7 @@ pub mod pairs;
 pub mod program;
 pub mod random;
 pub mod reach;
+pub mod recount;
 pub mod refusal;
 pub mod round_batches;
 pub mod round_edges;

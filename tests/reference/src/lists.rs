@@ -2,10 +2,12 @@
 
 use crate::bytes::length;
 use crate::calls;
+use crate::engine::Engine;
 use crate::halts::Halts;
 use crate::model::Answer;
-use crate::pairs::Pair;
+use crate::pairs::{word, Pair};
 use crate::random::Random;
+use crate::recount::Recount;
 
 #[derive(Clone, PartialEq, Eq, Debug)]
 pub enum Call {
@@ -37,61 +39,93 @@ pub struct Deeds {
 /// A sequential run: stations with their figures in turn; answers what each decided.
 pub type Sequential<'a> = &'a dyn Fn(u8, u8, &[(u8, i32)]) -> Vec<Option<i32>>;
 
-/// The list played by the calls of this package, one at a time on the board that the one before left.
-pub fn play(list: &List) -> Vec<Deeds> {
-    let mut board = vec![0; length(list.n, list.k)];
-    calls::lay(&mut board, list.n, list.k).expect("the sizes are in range");
-    let mut deeds = vec![Deeds::default(); list.n as usize];
+/// What a list did by its calls, with the registers that its collects met counted once more.
+pub struct Played {
+    board: Vec<u8>,
+    pub deeds: Vec<Deeds>,
+    pub recount: Recount,
+    /// A call that is not taken as it must be: a laying, or a line that is not its single calls.
+    pub unlike: Option<&'static str>,
+}
+
+/// The list played by an engine's calls, one at a time on the board that the one before left.
+pub fn play(engine: &dyn Engine, list: &List) -> Played {
+    let deeds = vec![Deeds::default(); list.n as usize];
+    let board = vec![0; length(list.n, list.k)];
+    let mut played = Played { board, deeds, recount: Recount::new(list.n), unlike: None };
+    engine.lay(&mut played.board, list.n, list.k);
     for call in &list.calls {
         match call {
-            Call::Lay(n, k) => assert!(calls::lay(&mut board, *n, *k).is_err()),
-            Call::Propose(i, v) => {
-                if calls::propose(&mut board, *i, *v).is_ok() {
-                    deeds[*i as usize - 1].proposed = Some(*v);
-                }
-            }
-            Call::Step(i) => step(&mut board, *i, &mut deeds),
-            Call::Rounds(halts) => spelled_out(&mut board, halts, &mut deeds),
-            Call::ProposeAll(pairs) => one_by_one(&mut board, pairs, &mut deeds),
+            Call::Lay(n, k) => played.lay(engine, *n, *k),
+            Call::Propose(i, v) => played.propose(engine, *i, *v),
+            Call::Step(i) => played.step(engine, *i),
+            Call::Rounds(halts) => played.spelled_out(engine, halts),
+            Call::ProposeAll(pairs) => played.one_by_one(engine, pairs),
         }
     }
-    deeds
+    played
 }
 
-fn step(board: &mut [u8], station: u8, deeds: &mut [Deeds]) {
-    if let Ok(answer) = calls::step(board, station) {
-        note(&mut deeds[station as usize - 1], answer);
+impl Played {
+    fn lay(&mut self, engine: &dyn Engine, n: u8, k: u8) {
+        if engine.lay(&mut self.board, n, k) == 0 {
+            self.unlike = self.unlike.or(Some("a laying is taken that must be refused"));
+        }
+    }
+
+    fn propose(&mut self, engine: &dyn Engine, station: u8, figure: i32) {
+        if engine.propose(&mut self.board, station, figure) == 0 {
+            self.deeds[station as usize - 1].proposed = Some(figure);
+        }
+    }
+
+    fn step(&mut self, engine: &dyn Engine, station: u8) {
+        let lent = self.board.clone();
+        let answer = engine.step(&mut self.board, station);
+        if answer & 0xFF == 0 {
+            note(&mut self.deeds[station as usize - 1], answer);
+            self.recount.step(&lent, station, answer);
+        }
+    }
+
+    /// Rounds as their single calls, which leave the board that the rounds leave. Refused rounds make none.
+    fn spelled_out(&mut self, engine: &dyn Engine, halts: &Halts) {
+        let mut whole = self.board.clone();
+        if engine.rounds(&mut whole, halts.most, &mut halts.to_bytes()) & 0xFF != 0 {
+            return;
+        }
+        halts.single_steps(whole[0]).iter().for_each(|station| self.step(engine, *station));
+        self.alike(&whole, "rounds are not their single steps");
+    }
+
+    /// Pairs as their single proposals, all of which are accepted. A refused list makes none.
+    fn one_by_one(&mut self, engine: &dyn Engine, pairs: &[Pair]) {
+        let mut whole = self.board.clone();
+        let mut words: Vec<u64> = pairs.iter().copied().map(word).collect();
+        if engine.propose_all(&mut whole, &mut words) != 0 {
+            return;
+        }
+        pairs.iter().for_each(|(station, figure)| self.propose(engine, *station, *figure));
+        self.alike(&whole, "pairs are not their single proposals");
+    }
+
+    fn alike(&mut self, whole: &[u8], why: &'static str) {
+        if self.board != whole {
+            self.unlike = self.unlike.or(Some(why));
+        }
+    }
+
+    /// What is wrong with the list beside what it decided.
+    pub fn wrong(&self) -> Option<&str> {
+        self.unlike.or(self.recount.wrong.as_deref())
     }
 }
 
-/// Rounds as their single calls, which leave the board that the rounds leave. Refused rounds make none.
-fn spelled_out(board: &mut [u8], halts: &Halts, deeds: &mut [Deeds]) {
-    let mut whole = board.to_vec();
-    if calls::rounds(&mut whole, halts).is_err() {
-        return;
-    }
-    halts.single_steps(board[0]).iter().for_each(|station| step(board, *station, deeds));
-    assert_eq!(board, whole, "rounds are their single steps");
-}
-
-/// Pairs as their single proposals, all of which are accepted. A refused list makes none.
-fn one_by_one(board: &mut [u8], pairs: &[Pair], deeds: &mut [Deeds]) {
-    let mut whole = board.to_vec();
-    if calls::propose_all(&mut whole, pairs).is_err() {
-        return;
-    }
-    for (station, figure) in pairs {
-        calls::propose(board, *station, *figure).expect("none is refused where all are accepted");
-        deeds[*station as usize - 1].proposed = Some(*figure);
-    }
-    assert_eq!(board, whole, "pairs are their single proposals");
-}
-
-fn note(deeds: &mut Deeds, answer: Answer) {
+fn note(deeds: &mut Deeds, answer: u64) {
     deeds.stepped = true;
-    match answer {
-        Answer::Decided(_, v) => deeds.decided = Some(v),
-        Answer::Spent(..) => deeds.spent = true,
+    match answer >> 8 & 0xFF {
+        6 => deeds.decided = Some((answer >> 32) as i32),
+        7 => deeds.spent = true,
         _ => {}
     }
 }
@@ -108,7 +142,7 @@ fn alone(board: &mut [u8], station: u8, figure: i32) -> Option<i32> {
     calls::propose(board, station, figure).ok()?;
     loop {
         match calls::step(board, station).ok()? {
-            Answer::Decided(_, v) => return Some(v),
+            Answer::Decided(_, v, _) => return Some(v),
             Answer::Spent(..) => return None,
             _ => {}
         }

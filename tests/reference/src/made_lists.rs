@@ -124,6 +124,7 @@ mod tests {
     use super::*;
     use crate::bytes::length;
     use crate::calls;
+    use crate::engine::Reference;
     use crate::lists::{play, Deeds};
 
     /// Rounds are played and refused in the made lists, and some of them decide; pairs are put in and refused.
@@ -155,7 +156,7 @@ mod tests {
 
     #[test]
     fn some_lists_decide_beside_spent_stations() {
-        let deeds: Vec<Vec<Deeds>> = (0..300).map(|seed| play(&make(seed))).collect();
+        let deeds: Vec<Vec<Deeds>> = (0..300).map(|seed| play(&Reference, &make(seed)).deeds).collect();
         let both = |d: &&Vec<Deeds>| d.iter().any(|s| s.spent) && d.iter().any(|s| s.decided.is_some());
         assert!(deeds.iter().filter(both).count() > 0);
     }

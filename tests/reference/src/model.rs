@@ -22,11 +22,13 @@ pub struct Entry {
 /// `None` is the listing's ⊥.
 pub type Register = Option<Entry>;
 
-/// A collect under way: the position to read next, and all that was read and was not ⊥.
+/// A collect under way: the position to read next, all that was read and was not ⊥, and how many registers held that.
+/// What was heard before a board was lent is a summary, so the list's length does not tell their number.
 #[derive(Clone, PartialEq, Eq, Debug, Default)]
 pub struct Collect {
     pub next: usize,
     pub heard: Vec<Entry>,
+    pub met: u8,
 }
 
 /// What a station has with it in every phase after its proposal.
@@ -73,16 +75,17 @@ impl Station {
     }
 }
 
-/// "It answers with its kind and fields."
+/// "It answers with its kind and fields." *Read* "reports whether it met a filled one", and those that end a collect
+/// "carry the total as a last field".
 #[derive(Clone, Copy, PartialEq, Eq, Debug)]
 pub enum Answer {
     Wrote,
-    Read,
-    Went(u8, i32),
-    Marked(Mark, i32),
-    Adopted(u8, i32),
-    Decided(u8, i32),
-    Spent(u8, i32),
+    Read(bool),
+    Went(u8, i32, u8),
+    Marked(Mark, i32, u8),
+    Adopted(u8, i32, u8),
+    Decided(u8, i32, u8),
+    Spent(u8, i32, u8),
 }
 
 /// A row per island, a place per station. One list behind it, because boards are taken apart for every call.
@@ -122,11 +125,13 @@ pub struct World {
 }
 
 impl Collect {
-    /// Reads one register; answers whether it was the last.
-    fn hear(&mut self, row: &[Register]) -> bool {
-        self.heard.extend(row[self.next]);
+    /// Reads one register. The answer, unless it was the last: then what the whole collect comes to answers.
+    fn hear(&mut self, row: &[Register]) -> Option<Answer> {
+        let read = row[self.next];
+        self.heard.extend(read);
+        self.met += read.is_some() as u8;
         self.next += 1;
-        self.next == row.len()
+        (self.next < row.len()).then_some(Answer::Read(read.is_some()))
     }
 }
 
@@ -231,16 +236,16 @@ impl World {
                 (Station::ReadB(l, flag, Collect::default()), Answer::Wrote)
             }
             Station::ReadM(l, mut collect) => match collect.hear(&self.m) {
-                false => (Station::ReadM(l, collect), Answer::Read),
-                true => went(l, &collect.heard),
+                Some(answer) => (Station::ReadM(l, collect), answer),
+                None => went(l, &collect),
             },
             Station::ReadA(l, mut collect) => match collect.hear(self.a.row(l.island)) {
-                false => (Station::ReadA(l, collect), Answer::Read),
-                true => marked(l, &collect.heard),
+                Some(answer) => (Station::ReadA(l, collect), answer),
+                None => marked(l, &collect),
             },
             Station::ReadB(l, flag, mut collect) => match collect.hear(self.b.row(l.island)) {
-                false => (Station::ReadB(l, flag, collect), Answer::Read),
-                true => returned(l, &collect.heard, self.last_island()),
+                Some(answer) => (Station::ReadB(l, flag, collect), answer),
+                None => returned(l, &collect, self.last_island()),
             },
             done => unreachable!("{done:?} takes no step"),
         }
@@ -248,27 +253,27 @@ impl World {
 }
 
 /// Lines 26 and 27: on to the island that m gave, with the figure that m gave.
-fn went(life: Life, heard: &[Entry]) -> (Station, Answer) {
-    let best = largest(heard).expect("a sound collect has its own register");
+fn went(life: Life, collect: &Collect) -> (Station, Answer) {
+    let best = largest(&collect.heard).expect("a sound collect has its own register");
     let life = Life { island: best.island, carried: best.figure.number(), ..life };
-    (Station::WriteA(life), Answer::Went(life.island, life.carried))
+    (Station::WriteA(life), Answer::Went(life.island, life.carried, collect.met))
 }
 
-fn marked(life: Life, heard: &[Entry]) -> (Station, Answer) {
-    let (flag, figure) = after_a(heard);
-    (Station::WriteB(Life { carried: figure, ..life }, flag), Answer::Marked(flag, figure))
+fn marked(life: Life, collect: &Collect) -> (Station, Answer) {
+    let (flag, figure) = after_a(&collect.heard);
+    (Station::WriteB(Life { carried: figure, ..life }, flag), Answer::Marked(flag, figure, collect.met))
 }
 
 /// Lines 28 to 30, and the end of the islands, which the paper does not have.
-fn returned(life: Life, heard: &[Entry], last: u8) -> (Station, Answer) {
-    let (control, figure) = after_b(heard);
+fn returned(life: Life, collect: &Collect, last: u8) -> (Station, Answer) {
+    let (control, figure) = after_b(&collect.heard);
     let life = Life { carried: figure, ..life };
-    let c = life.island;
+    let (c, total) = (life.island, collect.met);
     if control == Mark::Commit {
-        return (Station::Decided(life), Answer::Decided(c, figure));
+        return (Station::Decided(life), Answer::Decided(c, figure, total));
     }
     if c == last {
-        return (Station::Spent(life), Answer::Spent(c, figure));
+        return (Station::Spent(life), Answer::Spent(c, figure, total));
     }
-    (Station::WriteM(Life { island: c + 1, ..life }), Answer::Adopted(c + 1, figure))
+    (Station::WriteM(Life { island: c + 1, ..life }), Answer::Adopted(c + 1, figure, total))
 }

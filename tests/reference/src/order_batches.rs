@@ -107,6 +107,7 @@ impl Amid {
             seen: self.seen,
             best_island: of_m(self.best.0),
             flag: (self.phase == 6) as u8,
+            met: 1,
             proposal: self.wrote.1,
             carried: self.wrote.1,
             best: self.best.1,

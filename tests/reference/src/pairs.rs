@@ -36,7 +36,7 @@ pub fn named_twice(pairs: &[Pair]) -> bool {
 
 impl World {
     /// "It refuses before 12: 20 .. Then pairs are tried as written, 12 before 13 in each, and the first fault is answered."
-    fn tried(&self, pairs: &[Pair]) -> Result<(), Refusal> {
+    pub fn tried(&self, pairs: &[Pair]) -> Result<(), Refusal> {
         if named_twice(pairs) {
             return Err(Refusal::NamedTwice);
         }

@@ -18,7 +18,7 @@ clauses! {
     head_zeros, register_zeros, empty_registers, marks, islands_in_m, no_islands_in_a_and_b,
     phases, positions, islands, seen_ranges, best_islands, flags, record_zeros, idle_records,
     outside_collects, best_island_outside_m, flag_outside_b, nothing_seen, own_registers, own_seen, own_best,
-    steps_taken,
+    registers_met, steps_taken,
 }
 
 pub fn sound(f: &Fields) -> bool {
@@ -107,9 +107,9 @@ fn flags(f: &Fields) -> bool {
     every_record(f, |r| !matches!(r.phase, 5 | 6) || matches!(r.flag, 1 | 2))
 }
 
-/// "6–7 zero; .. 20–23 zero", of which bytes 20 and 21 are in use.
+/// "6–7 zero; .. 20–23 zero", of which bytes 6, 20 and 21 are in use.
 fn record_zeros(f: &Fields) -> bool {
-    every_record(f, |r| r.zeros == [0; 2] && r.tail == [0; 2])
+    every_record(f, |r| r.zero == 0 && r.tail == [0; 2])
 }
 
 /// "Idle is all zero."
@@ -172,6 +172,12 @@ fn own_best(f: &Fields) -> bool {
                 _ => true,
             }
     })
+}
+
+/// "record byte 6 counts these in phases 2, 4 and 6 (soundness asks only this of it: never above the position, zero
+/// elsewhere)". So it need not be what the other fields say was seen.
+fn registers_met(f: &Fields) -> bool {
+    every_record(f, |r| if in_a_collect(r) { r.met <= r.next } else { r.met == 0 })
 }
 
 /// "the steps of its present pass (a whole one, 3(n + 1), once decided or spent)": in each of the three arrays a pass has

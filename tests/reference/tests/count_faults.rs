@@ -4,10 +4,9 @@
 use reference::bytes::{fields, values, Fields, Record};
 use reference::compare;
 use reference::count_batches::SIZES;
-use reference::engine::{Engine, Reference};
-use reference::halts::Halts;
-use reference::model::{Answer, World};
-use reference::pairs::of_words;
+use reference::engine::{packed_answer, packed_standing};
+use reference::model::Answer;
+use reference::on_values::{Apart, By, OnValues};
 use reference::refusal::Refusal;
 use reference::sound::{most_steps, sound};
 
@@ -86,29 +85,6 @@ fn of_soundness() -> Vec<Fault> {
     all
 }
 
-/// By what call a step is taken.
-#[derive(Clone, Copy, PartialEq)]
-enum By {
-    Step,
-    Run,
-    Rounds,
-}
-
-/// A board that the reference has taken apart, its counts aside: there they are all 0.
-struct Apart {
-    world: World,
-    counts: Vec<u16>,
-}
-
-impl Apart {
-    /// The board without its counts.
-    fn bare(&self) -> Vec<u8> {
-        let mut world = self.world.clone();
-        world.steps.fill(0);
-        fields(&world).to_bytes()
-    }
-}
-
 impl Fault {
     /// The most steps, in the fault's eyes.
     fn most(self, n: u8, k: u8, r: &Record) -> u32 {
@@ -172,12 +148,12 @@ impl Fault {
 
     fn counted(self, steps: u16, answer: Result<Answer, Refusal>, by: By) -> u16 {
         let kept = match (self, answer) {
-            (WritesNotCounted, Ok(Answer::Wrote)) | (ReadsNotCounted, Ok(Answer::Read)) => true,
-            (LastReadsNotCounted, Ok(answer)) => !matches!(answer, Answer::Wrote | Answer::Read),
+            (WritesNotCounted, Ok(Answer::Wrote)) | (ReadsNotCounted, Ok(Answer::Read(_))) => true,
+            (LastReadsNotCounted, Ok(answer)) => !matches!(answer, Answer::Wrote | Answer::Read(_)),
             (EndsNotCounted, Ok(answer)) => matches!(answer, Answer::Decided(..) | Answer::Spent(..)),
             (RunsNotCounted, _) => by == By::Run,
             (RoundsNotCounted, _) => by == By::Rounds,
-            (WholeStepsCountOnce, Ok(Answer::Read)) => by == By::Rounds,
+            (WholeStepsCountOnce, Ok(Answer::Read(_))) => by == By::Rounds,
             (RefusedCounted, Err(refusal)) => refusal == Refusal::Idle,
             (PassedOverCounted, Err(refusal)) => refusal == Refusal::Idle || by == By::Step,
             _ => answer.is_err(),
@@ -203,158 +179,43 @@ impl Fault {
     }
 }
 
+/// The counts stand aside; the world's own are all 0.
 struct Faulty(Fault);
 
-impl Faulty {
-    fn opened(&self, board: &[u8]) -> Result<Apart, u64> {
-        let refusal = Reference.check(&mut board.to_vec());
-        if (7..11).contains(&refusal) {
-            return Err(refusal as u64);
-        }
-        let mut f = Fields::of_bytes(board);
+impl OnValues for Faulty {
+    fn opened(&self, mut f: Fields) -> Option<Apart> {
         let fit = f.records.iter().all(|r| self.0.fits(f.n, f.k, r) && self.0.tail(r.tail));
-        let counts = f.records.iter().map(|r| self.0.read(r.steps)).collect();
+        let aside = f.records.iter().map(|r| self.0.read(r.steps)).collect();
         f.records.iter_mut().for_each(|r| *r = Record { steps: 0, tail: [0; 2], ..*r });
-        if fit && sound(&f) {
-            Ok(Apart { world: values(&f), counts })
-        } else {
-            Err(11)
-        }
+        (fit && sound(&f)).then(|| Apart { world: values(&f), aside })
     }
 
-    fn closed(&self, board: &mut [u8], apart: &Apart) {
+    fn closed(&self, apart: &Apart) -> Fields {
         let mut f = fields(&apart.world);
-        f.records.iter_mut().zip(&apart.counts).for_each(|(r, steps)| r.steps = self.0.read(*steps));
-        board.copy_from_slice(&f.to_bytes());
+        f.records.iter_mut().zip(&apart.aside).for_each(|(r, steps)| r.steps = self.0.read(*steps));
+        f
     }
 
-    /// Whether the step was taken.
-    fn step_of(&self, apart: &mut Apart, station: u8, by: By) -> bool {
-        let Ok(who) = apart.world.place(station) else { return false };
+    fn proposed(&self, apart: &mut Apart, station: u8, figure: i32) -> Result<(), Refusal> {
+        let who = apart.world.place(station)?;
+        apart.world.propose(who, figure)?;
+        apart.aside[who] += (self.0 == ProposalCounted) as u16;
+        Ok(())
+    }
+
+    fn stepped(&self, apart: &mut Apart, station: u8, by: By) -> Result<u64, Refusal> {
+        let who = apart.world.place(station)?;
         let answer = apart.world.step(who);
         let counting = if self.0 == FirstStationCounts { 0 } else { who };
-        apart.counts[counting] = self.0.counted(apart.counts[counting], answer, by);
-        answer.is_ok()
+        apart.aside[counting] = self.0.counted(apart.aside[counting], answer, by);
+        answer.map(packed_answer)
     }
 
-    fn steps_of(&self, board: &mut [u8], apart: &mut Apart, stations: &[u8], by: By) -> u64 {
-        let taken = stations.iter().filter(|station| self.step_of(apart, **station, by)).count();
-        self.closed(board, apart);
-        taken as u64
-    }
-}
-
-/// The calls, each with its answer or the board's refusal. What the reference makes of the board without its counts says
-/// which call is refused beside that, and answers.
-impl Faulty {
-    fn proposed(&self, board: &mut [u8], station: u8, figure: i32) -> Result<u64, u64> {
-        let mut apart = self.opened(board)?;
-        let refusal = Reference.propose(&mut apart.bare(), station, figure);
-        if refusal == 0 {
-            let who = station as usize - 1;
-            apart.world.propose(who, figure).expect("it is idle");
-            apart.counts[who] += (self.0 == ProposalCounted) as u16;
-            self.closed(board, &apart);
-        }
-        Ok(refusal as u64)
-    }
-
-    fn put_in(&self, board: &mut [u8], pairs: &mut [u64]) -> Result<u64, u64> {
-        let mut apart = self.opened(board)?;
-        let refusal = Reference.propose_all(&mut apart.bare(), pairs);
-        if refusal == 0 {
-            apart.world.propose_all(&of_words(pairs)).expect("all are idle");
-            let counted = (self.0 == ProposalCounted) as u16;
-            of_words(pairs).iter().for_each(|(station, _)| apart.counts[*station as usize - 1] += counted);
-            self.closed(board, &apart);
-        }
-        Ok(refusal as u64)
-    }
-
-    fn stepped(&self, board: &mut [u8], station: u8) -> Result<u64, u64> {
-        let mut apart = self.opened(board)?;
-        let answer = Reference.step(&mut apart.bare(), station);
-        self.steps_of(board, &mut apart, &[station], By::Step);
-        Ok(answer)
-    }
-
-    fn stood(&self, board: &[u8], station: u8) -> Result<u64, u64> {
-        let apart = self.opened(board)?;
-        let answer = Reference.standing(&mut apart.bare(), station);
-        if answer & 0xFF != 0 {
-            return Ok(answer);
-        }
-        let (f, who) = (fields(&apart.world), station as usize - 1);
-        Ok(answer | self.0.told(f.n, &f.records[who], &apart.counts, who) << 20)
-    }
-
-    fn ran(&self, board: &mut [u8], stations: &[u8]) -> Result<u64, u64> {
-        let mut apart = self.opened(board)?;
-        let taken = self.steps_of(board, &mut apart, stations, By::Run);
-        Ok(taken << 8 | (stations.len() as u64 - taken) << 32)
-    }
-
-    fn played(&self, board: &mut [u8], most: u8, named: &mut [u8]) -> Result<u64, u64> {
-        let mut apart = self.opened(board)?;
-        let answer = Reference.rounds(&mut apart.bare(), most, named);
-        if answer & 0xFF == 0 {
-            let steps = Halts::of_bytes(most, named).single_steps(board[0]);
-            self.steps_of(board, &mut apart, &steps, By::Rounds);
-        }
-        Ok(answer)
-    }
-}
-
-fn either(answer: Result<u64, u64>) -> u64 {
-    answer.unwrap_or_else(|refusal| refusal)
-}
-
-impl Engine for Faulty {
-    fn lay(&self, board: &mut [u8], n: u8, k: u8) -> u8 {
-        Reference.lay(board, n, k)
-    }
-
-    fn propose(&self, board: &mut [u8], station: u8, figure: i32) -> u8 {
-        either(self.proposed(board, station, figure)) as u8
-    }
-
-    fn propose_all(&self, board: &mut [u8], pairs: &mut [u64]) -> u8 {
-        either(self.put_in(board, pairs)) as u8
-    }
-
-    fn check(&self, board: &mut [u8]) -> u8 {
-        either(self.opened(board).map(|_| 0)) as u8
-    }
-
-    fn step(&self, board: &mut [u8], station: u8) -> u64 {
-        either(self.stepped(board, station))
-    }
-
-    fn standing(&self, board: &mut [u8], station: u8) -> u64 {
-        either(self.stood(board, station))
-    }
-
-    fn run(&self, board: &mut [u8], stations: &mut [u8]) -> u64 {
-        if stations.len() > 65_536 {
-            return 6;
-        }
-        either(self.ran(board, stations))
-    }
-
-    fn rounds(&self, board: &mut [u8], most: u8, named: &mut [u8]) -> u64 {
-        either(self.played(board, most, named))
-    }
-
-    fn show(&self, board: &mut [u8], line: &mut [u8]) -> u32 {
-        Reference.show(board, line)
-    }
-
-    fn word(&self, line: &mut [u8]) -> u64 {
-        Reference.word(line)
-    }
-
-    fn play_line(&self, line: &mut [u8], laid: usize, memory: &mut [u8], printed: &mut [u8]) -> u64 {
-        Reference.play_line(line, laid, memory, printed)
+    fn stands(&self, apart: &Apart, station: u8) -> Result<u64, Refusal> {
+        let who = apart.world.place(station)?;
+        let f = fields(&apart.world);
+        let steps = self.0.told(f.n, &f.records[who], &apart.aside, who);
+        Ok(packed_standing((apart.world.stations[who].standing(), steps as u16)))
     }
 }
 

@@ -66,9 +66,10 @@ fn proposal(board: &[u8], station: u8) -> u64 {
     Fields::of_bytes(board).records[station as usize - 1].proposal as u32 as u64
 }
 
+/// `round_faults`, `pair_faults` and others try what is not written out here.
 impl Engine for Faulty {
-    fn lay(&self, board: &mut [u8], n: u8, k: u8) -> u8 {
-        Reference.lay(board, n, k)
+    fn rest(&self) -> &dyn Engine {
+        &Reference
     }
 
     fn propose(&self, board: &mut [u8], station: u8, figure: i32) -> u8 {
@@ -77,11 +78,6 @@ impl Engine for Faulty {
             board[8] ^= 1;
         }
         answer
-    }
-
-    // `pair_faults` tries the faults of figures put in together.
-    fn propose_all(&self, board: &mut [u8], pairs: &mut [u64]) -> u8 {
-        Reference.propose_all(board, pairs)
     }
 
     fn check(&self, board: &mut [u8]) -> u8 {
@@ -119,11 +115,6 @@ impl Engine for Faulty {
             stations.reverse();
         }
         answer + if self.is(CountsOneTooMany) && answer & 0xFF == 0 { 0x100 } else { 0 }
-    }
-
-    // `round_faults` tries the faults of rounds.
-    fn rounds(&self, board: &mut [u8], most: u8, named: &mut [u8]) -> u64 {
-        Reference.rounds(board, most, named)
     }
 
     fn show(&self, board: &mut [u8], line: &mut [u8]) -> u32 {

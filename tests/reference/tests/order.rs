@@ -63,15 +63,15 @@ fn answer(amid: Amid) -> Answer {
 fn the_largest_that_was_read() {
     for (x, y, higher) in pairs() {
         let m = |island| answer(Amid { phase: 2, best: (1, x), read: (island, y), ..LOWEST });
-        assert_eq!([m(0), m(1), m(2)], [Answer::Went(1, x), Answer::Went(1, higher), Answer::Went(2, y)]);
+        assert_eq!([m(0), m(1), m(2)], [Answer::Went(1, x, 2), Answer::Went(1, higher, 2), Answer::Went(2, y, 2)]);
         let a = Amid { best: (0, x), read: (0, y), ..LOWEST };
         let b = Amid { phase: 6, ..a };
         // 5 and −5 are different figures.
         let flag = if x == y { Mark::Commit } else { Mark::Adopt };
-        assert_eq!(answer(a), Answer::Marked(flag, higher));
-        assert_eq!(answer(Amid { seen: 2, ..a }), Answer::Marked(Mark::Adopt, higher));
-        assert_eq!(answer(b), Answer::Adopted(1, higher));
-        let commits = if x == y { Answer::Decided(0, x) } else { Answer::Adopted(1, x) };
+        assert_eq!(answer(a), Answer::Marked(flag, higher, 2));
+        assert_eq!(answer(Amid { seen: 2, ..a }), Answer::Marked(Mark::Adopt, higher, 2));
+        assert_eq!(answer(b), Answer::Adopted(1, higher, 2));
+        let commits = if x == y { Answer::Decided(0, x, 2) } else { Answer::Adopted(1, x, 2) };
         assert_eq!(answer(Amid { seen: 2, mark: 2, ..b }), commits);
     }
 }
@@ -101,10 +101,10 @@ fn different_figures_with_the_lowest_for_best() {
         let board = amid.board();
         assert_eq!(fields(&values(&Fields::of_bytes(&board))).to_bytes(), board);
         let mut after = board.clone();
-        assert_eq!(calls::step(&mut after, 1), Ok(Answer::Read));
+        assert_eq!(calls::step(&mut after, 1), Ok(Answer::Read(true)));
         let record = Fields::of_bytes(&after).records[0];
         assert_eq!((record.seen, record.best), (2, best));
-        assert_eq!(calls::step(&mut after, 1), Ok(Answer::Marked(Mark::Adopt, best)));
+        assert_eq!(calls::step(&mut after, 1), Ok(Answer::Marked(Mark::Adopt, best, 2)));
     }
 }
 

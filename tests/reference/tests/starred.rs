@@ -69,7 +69,7 @@ fn alone_six_steps_decide() {
     assert!(calls::lay(&mut board, 1, 2).is_ok());
     assert!(calls::propose(&mut board, 1, -9).is_ok());
     let answers: Vec<Answer> = (0..6).map(|_| calls::step(&mut board, 1).unwrap()).collect();
-    assert!(matches!(answers[5], Answer::Decided(0, -9)));
+    assert!(matches!(answers[5], Answer::Decided(0, -9, 1)));
     assert_eq!(number(calls::step(&mut board, 1)), 15);
 }
 

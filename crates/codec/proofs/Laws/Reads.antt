@@ -58,6 +58,7 @@ pub record-read : (b : List ℕ) (at : ℕ) (v x y : ℤ) (s : ℕ) → at + 24 
       carried = toZ w32 (ofZ w32 x);
       best = toZ w32 (ofZ w32 y);
       steps = s;
+      met = byte b (at + 6);
     } ≡ readRecord (part at 24 b)
 unfolding readRecord
 record-read b at v x y s h ev ex ey es = λ i. record {
@@ -71,4 +72,5 @@ record-read b at v x y s h ev ex ey es = λ i. record {
   carried = figure-in at 24 b h 12 x (omega arith) ex i;
   best = figure-in at 24 b h 16 y (omega arith) ey i;
   steps = (es ∙ ap number (part-part at 24 20 2 b h (omega arith))) i;
+  met = byte-at at 24 b 6 (lit< tt) i;
 }

@@ -71,12 +71,13 @@ module _ (r : Record) (at : ℕ) (b : List ℕ) (h : at + 24 ≤ length b) where
 
   pub collected-put : (y : Figure) (d : List ℕ) → y ≡ r .best
       → d ≡ splice (at + 16) (figureBytes y)
-      (set (set (set b (at + 1) (r .position)) (at + 3) (r .seen)) (at + 4) (r .highest))
+      (set (set (set (set b (at + 1) (r .position)) (at + 3) (r .seen)) (at + 4) (r .highest)) (at + 6) (r .met))
       → d ≡ putChanges (collectedPart r) at b
   unfolding putChanges collectedPart
   collected-put y d e q =
       let start : After (length b) b b = record { long = refl; is = refl } in
-      let stores = then 4 (r .highest) (lit< tt) (then 3 (r .seen) (lit< tt) (then 1 (r .position) (lit< tt) start)) in
+      let seen = then 4 (r .highest) (lit< tt) (then 3 (r .seen) (lit< tt) (then 1 (r .position) (lit< tt) start)) in
+      let stores = then 6 (r .met) (lit< tt) seen in
       q ∙ (λ k. splice (at + 16) (figureBytes (e k)) (stores .is k))
 
   pub started-put : (x : Figure) (c d : List ℕ) → x ≡ r .carried

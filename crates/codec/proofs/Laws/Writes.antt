@@ -55,7 +55,7 @@ padded y k = byte y 0 ∷ byte y 1 ∷ byte y 2 ∷ byte y 3 ∷ byte k 0 ∷ by
 pub record-laid : (r : Record) (at : ℕ) (b b1 b2 b3 v x y k : List ℕ)
     → v ≡ figureBytes (r .proposal) → x ≡ figureBytes (r .carried) → y ≡ figureBytes (r .best)
     → k ≡ digits 2 (r .steps)
-    → b1 ≡ splice at (r .phase ∷ r .position ∷ r .island ∷ r .seen ∷ r .highest ∷ r .flag ∷ 0 ∷ 0 ∷ []) b
+    → b1 ≡ splice at (r .phase ∷ r .position ∷ r .island ∷ r .seen ∷ r .highest ∷ r .flag ∷ r .met ∷ 0 ∷ []) b
     → b2 ≡ splice (at + 8) (pair v x) b1 → b3 ≡ splice (at + 16) (padded y k) b2 → b3 ≡ splice at (layRecord r) b
 unfolding layRecord figureBytes digits
 record-laid r at b b1 b2 b3 v x y k ev ex ey ek e1 e2 e3 =
@@ -64,4 +64,4 @@ record-laid r at b b1 b2 b3 v x y k ev ex ey ek e1 e2 e3 =
     ∙ (λ i. splice at (head ++ pair (ev i) (ex i) ++ padded (ey i) (ek i)) b)
   where
     head : List ℕ
-    head = r .phase ∷ r .position ∷ r .island ∷ r .seen ∷ r .highest ∷ r .flag ∷ 0 ∷ 0 ∷ []
+    head = r .phase ∷ r .position ∷ r .island ∷ r .seen ∷ r .highest ∷ r .flag ∷ r .met ∷ 0 ∷ []

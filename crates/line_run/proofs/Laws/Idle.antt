@@ -22,9 +22,9 @@ use Rattle.line_run.proofs.Laws.RunItems.{Repeats, repeat-ran, repeat-m
 idle-after : (is b : List ℕ) → taken (answers stepOn b is) ≡ 0 → after stepOn b is ≡ b
 unfolding taken answers after
 idle-after [] b e = refl
-idle-after (i ∷ is) b e = go (accepted (stepOn i b .answer)) refl (idle-after is b)
+idle-after (i ∷ is) b e = go (accepted (stepOn i b .answer .did)) refl (idle-after is b)
   where
-    go : (a : Bool) → accepted (stepOn i b .answer) ≡ a → (taken (answers stepOn b is) ≡ 0 → after stepOn b is ≡ b)
+    go : (a : Bool) → accepted (stepOn i b .answer .did) ≡ a → (taken (answers stepOn b is) ≡ 0 → after stepOn b is ≡ b)
         → after stepOn (stepOn i b .bytes) is ≡ b
     go true h rest = absurd (omega (arith, ap {B = ℕ} (λ (t : Bool). cond t 1 0) h))
     go false h rest =

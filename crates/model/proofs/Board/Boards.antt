@@ -7,7 +7,7 @@ use Rattle.model.specs.Bytes.{byte, part, splice}
 use Rattle.model.specs.Figure.{Figure}
 use Rattle.model.specs.Listing.{Register, Array, Station}
 use Rattle.model.specs.Layout.{boardLength, registerAt, recordAt, layRecord, recordFields, recordOf, stepsIs}
-use Rattle.model.specs.Layout.{withSteps, putChanges}
+use Rattle.model.specs.Layout.{changed, putChanges}
 use Rattle.model.specs.Calls.{putRecord, putRegister}
 use Rattle.model.proofs.Basics.Splices.{length-splice, byte-before, part-same, part-before, part-after}
 use Rattle.model.proofs.Basics.Splices.{splice-apart}
@@ -80,7 +80,7 @@ records-commute n K b len i j hi hj ne f g =
 pub steps-over : (n K : ℕ) (b : List ℕ) → length b ≡ boardLength n K → (i : ℕ) → i < n
     → (s : Station Figure) (k : ℕ) (f : Record)
     → putChanges (stepsIs k ∷ []) (recordAt n K i) (putRecord n K i (recordFields s f) b)
-    ≡ putRecord n K i (recordFields s (withSteps k f)) b
+    ≡ putRecord n K i (recordFields s (changed (stepsIs k ∷ []) f)) b
 unfolding putRecord
 steps-over n K b len i own s k f =
     all-put (recordAt n K i) b (omega (arith, record-inside n K i own)) (stepsIs k ∷ []) (recordFields s f)

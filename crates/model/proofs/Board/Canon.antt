@@ -93,18 +93,15 @@ module _ (r : List ℕ) (e : length r ≡ 24) (bytes : Bytes r) where
   pub laid-fields : T (restZero (byte r 0) r) → layRecord (readRecord r) ≡ r
   unfolding layRecord readRecord restZero
   laid-fields z =
-      (λ i. (byte r 0 ∷ byte r 1 ∷ byte r 2 ∷ byte r 3 ∷ byte r 4 ∷ byte r 5 ∷ six i ∷ seven i ∷ [])
+      (λ i. (byte r 0 ∷ byte r 1 ∷ byte r 2 ∷ byte r 3 ∷ byte r 4 ∷ byte r 5 ∷ byte r 6 ∷ seven i ∷ [])
       ++ figure-at 8 (lit≤ tt) i ++ figure-at 12 (lit≤ tt) i ++ figure-at 16 (lit≤ tt) i ++ steps-at i ++ last i)
       ∙ sym record-parts
     where
       front : T (zeros (part gapAt gap r))
       front = and-l (zeros (part gapAt gap r)) (zeros (part tailAt tail r)) z
 
-      six : 0 ≡ byte r 6
-      six = sym (zero-at 6 2 r (omega arith) front 0 (lit≤ tt))
-
       seven : 0 ≡ byte r 7
-      seven = sym (zero-at 6 2 r (omega arith) front 1 (lit≤ tt))
+      seven = sym (zero-at gapAt gap r (omega arith) front 0 (lit≤ tt))
 
       last : replicate tail 0 ≡ part tailAt tail r
       last =

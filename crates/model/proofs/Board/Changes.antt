@@ -7,8 +7,8 @@ use Rattle.model.specs.declared.Record.{Record}
 use Rattle.model.specs.Bytes.{part, splice, digits}
 use Rattle.model.specs.Figure.{figureBytes}
 use Rattle.model.specs.Layout.{layRecord, Change, phaseIs, positionIs, islandIs, seenIs, highestIs, flagIs}
-use Rattle.model.specs.Layout.{proposalIs, carriedIs, bestIs, stepsIs, stepsAt, stored, change, changed, store}
-use Rattle.model.specs.Layout.{putChanges}
+use Rattle.model.specs.Layout.{proposalIs, carriedIs, bestIs, stepsIs, metIs, stepsAt, metAt, stored, change}
+use Rattle.model.specs.Layout.{changed, store, putChanges}
 use Rattle.model.proofs.Basics.Splices.{length-part, splice-inside}
 
 module _ (at : ℕ) (b : List ℕ) (h : at + 24 ≤ length b) where
@@ -25,6 +25,7 @@ module _ (at : ℕ) (b : List ℕ) (h : at + 24 ≤ length b) where
   one-put (carriedIs v) f = splice-inside at 12 (figureBytes v) (layRecord f) b (lit≤ tt) h
   one-put (bestIs v) f = splice-inside at 16 (figureBytes v) (layRecord f) b (lit≤ tt) h
   one-put (stepsIs x) f = splice-inside at stepsAt (digits 2 x) (layRecord f) b (lit≤ tt) h
+  one-put (metIs x) f = splice-inside at metAt (x ∷ []) (layRecord f) b (lit≤ tt) h
 
   -- over a record that was just put there
   pub all-put : (cs : List Change) (f : Record)

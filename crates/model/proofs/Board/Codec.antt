@@ -11,7 +11,7 @@ use Rattle.model.specs.Listing.{idle, active, flagOf, flagNumber}
 use Rattle.model.specs.Layout.{layRegister, readRegister, registerFields, registerValue, seenNumber, bestIsland}
 use Rattle.model.specs.Layout.{bestFigure, seenOf, writePhase, flagByte, changed, proposalIs, carriedIs, bestIs}
 use Rattle.model.specs.Layout.{layRecord, readRecord, fields, recordFields, recordValue, writingOf, readingOf}
-use Rattle.model.specs.Layout.{ofPhase, withSteps}
+use Rattle.model.specs.Layout.{ofPhase, stepsIs}
 use Rattle.model.proofs.Basics.Numbers.{digits-below, figure-fits, figure-bytes}
 
 -- a register and a station's record as bytes, the record having been f, and back
@@ -104,17 +104,18 @@ station-back (active v (reading (turnB commit) c x p a)) f =
 station-back (active v (has-decided c x)) f = refl
 station-back (active v (is-spent c x)) f = refl
 
--- how it stands tells nothing of the steps
-pub steps-stay : (s : Station Figure) (f : Record) → recordFields s f .steps ≡ f .steps
+-- how it stands tells nothing of the counts
+pub counts-stay : (s : Station Figure) (f : Record)
+    → (recordFields s f .steps ≡ f .steps) × (recordFields s f .met ≡ f .met)
 unfolding recordFields fields changed
-steps-stay idle f = refl
-steps-stay (active v (writing t c x)) f = refl
-steps-stay (active v (reading t c x p a)) f = refl
-steps-stay (active v (has-decided c x)) f = refl
-steps-stay (active v (is-spent c x)) f = refl
+counts-stay idle f = (refl, refl)
+counts-stay (active v (writing t c x)) f = (refl, refl)
+counts-stay (active v (reading t c x p a)) f = (refl, refl)
+counts-stay (active v (has-decided c x)) f = (refl, refl)
+counts-stay (active v (is-spent c x)) f = (refl, refl)
 
 pub steps-beside : (s : Station Figure) (k : ℕ) (f : Record)
-    → withSteps k (recordFields s f) ≡ recordFields s (withSteps k f)
+    → changed (stepsIs k ∷ []) (recordFields s f) ≡ recordFields s (changed (stepsIs k ∷ []) f)
 unfolding recordFields fields changed
 steps-beside idle k f = refl
 steps-beside (active v (writing t c x)) k f = refl
@@ -124,12 +125,16 @@ steps-beside (active v (is-spent c x)) k f = refl
 
 -- ---- and its fields survive their bytes
 
+pub met-back : (s : Station Figure) (f : Record) → readRecord (recordBytes s f) .met ≡ f .met
+unfolding readRecord layRecord
+met-back s f = counts-stay s f .1
+
 pub steps-back : (f : Record) → readRecord (layRecord f) .steps ≡ number (digits 2 (f .steps))
 unfolding readRecord layRecord part figureBytes digits
 steps-back f = refl
 
 pub steps-below : (s : Station Figure) (f : Record) → readRecord (recordBytes s f) .steps ≤ f .steps
-steps-below s f = rw (steps-back (recordFields s f), steps-stay s f) (digits-below 2 (f .steps))
+steps-below s f = rw (steps-back (recordFields s f), counts-stay s f .0) (digits-below 2 (f .steps))
 
 best-back : (a : Seen Figure) → FitsSeen a → figure (figureBytes (bestFigure a)) ≡ bestFigure a
 unfolding bestFigure FitsSeen figure figureBytes digits number

@@ -12,7 +12,7 @@ use Rattle.model.specs.Layout.{recordOf}
 use Rattle.model.specs.Sound.{headSound, registerSound, ownWritten, ownPassed, collecting, phaseKnown}
 use Rattle.model.specs.Sound.{positionInside, islandInside, bestInside, flagKnown, restZero, idleZero}
 use Rattle.model.specs.Sound.{collectZero, bestIslandZero, bestZero, seenKnown, fieldsSound, recordSound}
-use Rattle.model.specs.Sound.{stepsKept, mostSteps}
+use Rattle.model.specs.Sound.{stepsKept, mostSteps, metKept, mostMet}
 use Rattle.model.proofs.Basics.Tests.{zeros-replicate, true-T}
 use Rattle.model.proofs.Basics.Splices.{length-part, byte-part}
 use Rattle.model.proofs.Board.Places.{InBoard, register-fits, record-inside, head-first, head-before-records}
@@ -56,7 +56,7 @@ module _ (n K : ℕ) where
   pub zero-sound : 0 < n → 0 < K → (i : ℕ) (b : List ℕ) → recordSound n K i b (replicate 24 0) ≡ true
   unfolding recordSound fieldsSound phaseKnown positionInside islandInside bestInside flagKnown restZero idleZero
       collectZero bestIslandZero bestZero seenKnown collecting implies zeros part readRecord recordValue ofPhase
-      ownWritten ownPassed stepsKept mostSteps number
+      ownWritten ownPassed stepsKept mostSteps metKept mostMet number
   zero-sound hn hK i b = simp (lt-ltb 0 n hn, lt-ltb 0 K hK)
 
   pub fresh-sound : 0 < n → 0 < K → SoundBoard n K (freshBoard n K)

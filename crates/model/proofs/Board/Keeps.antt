@@ -9,19 +9,19 @@ use Rattle.model.specs.Figure.{Figure}
 use Rattle.model.specs.Listing.{Register, Stage, writing, reading, has-decided, is-spent, Station, idle, active}
 use Rattle.model.specs.Listing.{Array, array, entry}
 use Rattle.model.specs.Layout.{readRecord, layRecord, recordFields, recordValue, registerOf, recordOf}
-use Rattle.model.specs.Sound.{headSound, ownWritten, ownPassed, sameRegister, mostSteps, stepsKept, fieldsSound}
-use Rattle.model.specs.Sound.{recordSound}
+use Rattle.model.specs.Sound.{headSound, ownWritten, ownPassed, sameRegister, mostSteps, stepsKept, mostMet}
+use Rattle.model.specs.Sound.{metKept, fieldsSound, recordSound}
 use Rattle.model.specs.Calls.{putRecord, putRegister}
 use Rattle.model.proofs.Basics.Tests.{and-l, and-r, and-i, true-T}
 use Rattle.model.proofs.Board.Places.{InBoard, same-place}
 use Rattle.model.proofs.Board.Codec.{registerBytes, recordBytes, register, station, FitsStation, station-bytes}
-use Rattle.model.proofs.Board.Codec.{steps-below}
+use Rattle.model.proofs.Board.Codec.{steps-below, met-back}
 use Rattle.model.proofs.Board.Boards.{registerPart, record-length, record-before, record-same, record-other}
 use Rattle.model.proofs.Board.Boards.{record-register, register-length, register-before, register-same}
 use Rattle.model.proofs.Board.Boards.{register-other, register-record}
 use Rattle.model.proofs.Board.Good.{GoodStation, GoodStage, fields-good, good-fields}
 use Rattle.model.proofs.Board.SoundFacts.{registerTest, SoundBoard, SoundBut}
-use Rattle.model.proofs.Board.Values.{array-inside, SoundStation}
+use Rattle.model.proofs.Board.Values.{array-inside, SoundStation, Counts}
 
 pub sound-but : (i n K : ℕ) (b : List ℕ) → SoundBoard n K b → SoundBut i n K b
 sound-but i n K b s = record {
@@ -89,11 +89,11 @@ module _ (i n K : ℕ) (b : List ℕ) (s : SoundBut i n K b) (a : Array) (inside
         (s .others j h f));
   }
 
--- A good station with its own clauses and few enough steps encodes to a sound record.
+-- A good station with its own clauses and counts that are low enough encodes to a sound record.
 record-sound : (n K : ℕ) → 0 < n → 0 < K → (i : ℕ) (b : List ℕ) (v : Figure) (s : Stage Figure) (f : Record)
-    → FitsStation (active v s) → SoundStation n K i b (active v s) → f .steps ≤ mostSteps n (active v s)
+    → FitsStation (active v s) → SoundStation n K i b (active v s) → Counts n (active v s) f
     → T (recordSound n K i b (recordBytes (active v s) f))
-unfolding recordSound GoodStation stepsKept
+unfolding recordSound GoodStation stepsKept metKept
 record-sound n K hn hK i b v s f fits g few =
     let r = recordBytes (active v s) f in
     let same = station-bytes (active v s) f fits in
@@ -103,7 +103,10 @@ record-sound n K hn hK i b v s f fits g few =
     let passed : T (ownPassed i (station r)) = subst⁻¹ (λ (z : Station Figure). T (ownPassed i z)) same (g .passed) in
     let steps : T (stepsKept n (readRecord r .steps) (station r)) =
     subst⁻¹ (λ (z : Station Figure). T (leb (readRecord r .steps) (mostSteps n z))) same
-    (le→leb (readRecord r .steps) (mostSteps n (active v s)) (omega (arith, few, steps-below (active v s) f))) in
+    (le→leb (readRecord r .steps) (mostSteps n (active v s)) (omega (arith, few .steps, steps-below (active v s) f))) in
+    let met : T (metKept (readRecord r .met) (station r)) =
+    subst⁻¹ (λ (z : Station Figure). T (leb (readRecord r .met) (mostMet z))) same
+    (le→leb (readRecord r .met) (mostMet (active v s)) (rw (met-back (active v s) f) (few .met))) in
     search and-i
 
 -- A record of station index i is put in that is sound there.
@@ -136,10 +139,10 @@ module _ (i n K : ℕ) (b : List ℕ) (q : SoundBut i n K b) (own : i < n) (f : 
         (record-at j h);
   }
 
--- A station of index i that comes to stand otherwise, whatever its record f was but for the number of its steps.
+-- A station of index i that comes to stand otherwise, whatever its record f was but for its counts.
 pub station-keeps : (i n K : ℕ) (b : List ℕ) → SoundBut i n K b → i < n → 0 < K → (v : Figure) (s : Stage Figure)
     (f : Record)
-    → FitsStation (active v s) → SoundStation n K i b (active v s) → f .steps ≤ mostSteps n (active v s)
+    → FitsStation (active v s) → SoundStation n K i b (active v s) → Counts n (active v s) f
     → SoundBoard n K (putRecord n K i (recordFields (active v s) f) b)
 station-keeps i n K b q own hK v s f fits g few =
     record-keeps i n K b q own _ (record-sound n K (omega arith) hK i b v s f fits g few)

@@ -3,6 +3,7 @@
 use Rattle.model.proofs.Kit.{_≡_, refl, sym, subst, Bool, cond, _&&_, List, ℕ, zero, suc, _≤_, _<_, eqb, leb}
 use Rattle.model.proofs.Kit.{ltb, T, leb→le, eqb→eq, eqb-refl, ltb→lt, lt→ltb}
 use lib.Dec.{eqb·suc-zero}
+use Rattle.model.specs.declared.Record.{Record}
 use Rattle.model.specs.Bytes.{byte, part, zeros}
 use Rattle.model.specs.Figure.{Figure, figure, figures, sameFigure}
 use Rattle.model.specs.Listing.{Flag, adopt, commit, Turn, turnM, turnA, turnB, Register, empty, filled, Seen}
@@ -11,7 +12,7 @@ use Rattle.model.specs.Listing.{array, entry, placeArray, placeColumn, f
 use Rattle.model.specs.Layout.{registerAt, readRegister, registerValue, seenOf, readRecord, recordValue}
 use Rattle.model.specs.Layout.{writingOf, readingOf, ofPhase, registerOf, recordOf, fieldsOf, stationOf}
 use Rattle.model.specs.Sound.{registerSound, sameRegister, ownWritten, ownSeen, ownPassed}
-use Rattle.model.specs.Sound.{mostSteps, stepsKept, recordSound}
+use Rattle.model.specs.Sound.{mostSteps, stepsKept, mostMet, metKept, recordSound}
 use Rattle.model.proofs.Basics.Tests.{and-l, and-r, and-i, implies-use}
 use Rattle.model.proofs.Basics.Numbers.{same-is, same-refl}
 use Rattle.model.proofs.Board.Places.{InBoard}
@@ -136,11 +137,17 @@ sound-station n K b s i h = record {
     r : List ℕ
     r = recordOf n K i b
 
--- and of the steps that its record counts
-pub sound-steps : (n K : ℕ) (b : List ℕ) → SoundBoard n K b → (i : ℕ) → i < n
-    → fieldsOf n K i b .steps ≤ mostSteps n (stationOf n K i b)
-unfolding stationOf recordSound stepsKept
-sound-steps n K b s i h = let t = s .records i h in leb→le _ _ (search (and-l, and-r))
+-- and of what its record counts: no more steps, and no more filled registers met, than a station that stands so may have
+pub record Counts (n : ℕ) (s : Station Figure) (f : Record) : Type 0 where
+  pub steps : f .steps ≤ mostSteps n s
+  pub met : f .met ≤ mostMet s
+
+pub sound-counts : (n K : ℕ) (b : List ℕ) → SoundBoard n K b → (i : ℕ) → i < n
+    → Counts n (stationOf n K i b) (fieldsOf n K i b)
+unfolding stationOf recordSound stepsKept metKept
+sound-counts n K b s i h =
+    let t = s .records i h in
+    record { steps = leb→le _ _ (search (and-l, and-r)); met = leb→le _ _ (search (and-l, and-r)) }
 
 own-something : (t : Turn) (c : ℕ) (x : Figure) (a : Seen Figure) → T (ownSeen t c x a) → Something a
 unfolding ownSeen

@@ -40,7 +40,7 @@ changed n K (proposing i v) b h a =
     ⊎-elim (λ e. takes i v (refl, e) (propose-sim n K i v b a (ready n K b h) e))
     (λ e. same (propose-refused i v b (e .0) (e .1))) (refusal-case (propose i v b .answer))
 changed n K (stepping i) b h a =
-    by-test (accepted (step i b .answer)) (λ e. moves i (refl, e) (step-sim n K i b (ready n K b h) e) refl)
+    by-test (accepted (step i b .answer .did)) (λ e. moves i (refl, e) (step-sim n K i b (ready n K b h) e) refl)
     (λ e. same (step-refused i b e))
 
 -- the invariant along one call

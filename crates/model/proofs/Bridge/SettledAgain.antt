@@ -5,6 +5,7 @@ use Rattle.model.proofs.Kit.{none, some, ℕ, zero, suc, _+_, _-_, _≤
 use Rattle.model.specs.Figure.{Figure, figures}
 use Rattle.model.specs.Listing.{Register, Turn, turnM, turnA, turnB, Flag, adopt, commit, writing, reading}
 use Rattle.model.specs.Listing.{has-decided, is-spent, Station, idle, active, Answer, refused, Move, stay}
+use Rattle.model.specs.Filled.{Report, refusal}
 use Rattle.model.specs.Collects.{Ends, returned}
 use Rattle.model.specs.Layout.{readRecord, recordValue, stationOf}
 use Rattle.model.specs.Calls.{After, Refusal, stations, islands, stationAt, unlessRefused, notGoing, stepped}
@@ -25,11 +26,11 @@ use Rattle.model.proofs.Bridge.WholeSteps.{whole-step}
 
 module _ (i : ℕ) (b : List ℕ) (h : Board b) (low : 1 ≤ i) (high : i ≤ stations b) (k : ℕ)
     (e : notGoing (stationAt i b) ≡ some k) where
-  refused-step : step i b ≡ (record { answer = refused k; bytes = b })
+  refused-step : step i b ≡ (record { answer = refusal k; bytes = b })
   unfolding stepOn unlessRefused
   refused-step =
       step-on i b h
-      ∙ ap (λ (r : Refusal). unlessRefused r refused b (stepped (stations b) (islands b) (i - 1) (stationAt i b) b))
+      ∙ ap (λ (r : Refusal). unlessRefused r refusal b (stepped (stations b) (islands b) (i - 1) (stationAt i b) b))
       (station-passes i b (record { low = low; high = high }) (notGoing (stationAt i b)) ∙ e)
 
   pub refused-steps : (steps : ℕ)
@@ -38,8 +39,8 @@ module _ (i : ℕ) (b : List ℕ) (h : Board b) (low : 1 ≤ i) (high : i ≤ st
   refused-steps zero = (refl, refl)
   refused-steps (suc steps) =
       let rest = refused-steps steps in
-      let stays : step i b .bytes ≡ b = ap (λ (a : After (Answer Figure)). a .bytes) refused-step in (
-        (λ j. refused-step j .answer ∷ answers step (stays j) (replicate steps i))
+      let stays : step i b .bytes ≡ b = ap (λ (a : After (Report Figure)). a .bytes) refused-step in (
+        (λ j. refused-step j .answer .did ∷ answers step (stays j) (replicate steps i))
             ∙ ap (λ (l : List (Answer Figure)). refused k ∷ l) (rest .0),
         ap (λ (d : List ℕ). after step d (replicate steps i)) stays ∙ rest .1,
       )

@@ -5,8 +5,9 @@ use Rattle.model.proofs.Kit.{arith}
 use Rattle.model.specs.Bytes.{byte}
 use Rattle.model.specs.Figure.{Figure, figures}
 use Rattle.model.specs.Listing.{nothing, Stage, writing, reading, has-decided, is-spent, Station, idle, active}
-use Rattle.model.specs.Listing.{array, entry, Answer, refused, accepted, outcome, move, placeArray, placeColumn}
+use Rattle.model.specs.Listing.{array, entry, accepted, outcome, move, placeArray, placeColumn}
 use Rattle.model.specs.Listing.{proposed}
+use Rattle.model.specs.Filled.{Report, refusal}
 use Rattle.model.specs.Layout.{registerOf, stationOf}
 use Rattle.model.specs.Calls.{After, stations, islands, stationAt, propose, notGoing, access, stepped, stepOn}
 use Rattle.model.specs.Calls.{step}
@@ -81,7 +82,8 @@ pub propose-ready : (n K i : ℕ) (v : Figure) (b : List ℕ) → Fits v → Rea
 propose-ready n K i v b fits r =
     still-ready n K b _ r (propose-keeps i v fits b (r .board)) (propose-head i v b (r .board))
 
-by-head : {n K : ℕ} {b : List ℕ} (P : ℕ → ℕ → Type 0) → Ready n K b → P (stations b) (islands b) → P n K
+-- what is said of the size in the head is said of n and K
+pub by-head : {n K : ℕ} {b : List ℕ} (P : ℕ → ℕ → Type 0) → Ready n K b → P (stations b) (islands b) → P n K
 by-head P r = subst₂ P (r .isN) (r .isK)
 
 -- ---- an accepted proposal, which leaves the bytes d
@@ -110,7 +112,7 @@ propose-sim n K i v b fits r a =
 
 -- ---- an accepted step, which gives the answer and bytes d
 
-pub record StepSim (n K i : ℕ) (b : List ℕ) (d : After (Answer Figure)) : Type 0 where
+pub record StepSim (n K i : ℕ) (b : List ℕ) (d : After (Report Figure)) : Type 0 where
   pub positive : 1 ≤ i
   pub own : i - 1 < n
   pub proposal : Figure
@@ -118,7 +120,7 @@ pub record StepSim (n K i : ℕ) (b : List ℕ) (d : After (Answer Figure)) : Ty
   pub stands : stationOf n K (i - 1) b ≡ active proposal stage
   pub goes : Going stage
   pub after : view n K (d .bytes) ≡ moving figures n K (i - 1) proposal stage (view n K b)
-  pub says : d .answer ≡ moveOf figures n K (i - 1) stage (view n K b) .answer
+  pub says : d .answer .did ≡ moveOf figures n K (i - 1) stage (view n K b) .answer
 
 pub on-board : (n K i : ℕ) (b : List ℕ) → Ready n K b → 1 ≤ i → i - 1 < n → OnBoard i b
 on-board n K i b r low own = record { low = low; high = omega (arith, r .isN) }
@@ -127,7 +129,7 @@ on-board n K i b r low own = record { low = low; high = omega (arith, r .isN) }
 pub step-at : (n K i : ℕ) (b : List ℕ) → Ready n K b → 1 ≤ i → i - 1 < n → (v : Figure) (s : Stage Figure)
     → stationOf n K (i - 1) b ≡ active v s → Going s
     → (view n K (step i b .bytes) ≡ moving figures n K (i - 1) v s (view n K b))
-    × (step i b .answer ≡ moveOf figures n K (i - 1) s (view n K b) .answer)
+    × (step i b .answer .did ≡ moveOf figures n K (i - 1) s (view n K b) .answer)
 unfolding stationAt access
 step-at n K i b r low own v s e g =
     let q : SoundBoard n K b = rw (r .isN, r .isK) at (r .board .sound-board) in
@@ -139,10 +141,11 @@ step-at n K i b r low own v s e g =
       rw (move-as n K b q (i - 1) own v s g (good-stage n K v s (station .good))),
     )
 
-pub step-sim : (n K i : ℕ) (b : List ℕ) → Ready n K b → accepted (step i b .answer) ≡ true → StepSim n K i b (step i b)
+pub step-sim : (n K i : ℕ) (b : List ℕ) → Ready n K b → accepted (step i b .answer .did) ≡ true
+    → StepSim n K i b (step i b)
 unfolding stepOn stationAt notGoing accepted outcome
 step-sim n K i b r a =
-    call-case (λ (d : After (Answer Figure)). accepted (d .answer) ≡ true → StepSim n K i b (step i b)) _ refused b
+    call-case (λ (d : After (Report Figure)). accepted (d .answer .did) ≡ true → StepSim n K i b (step i b)) _ refusal b
     (stepped (stations b) (islands b) (i - 1) (stationAt i b) b)
     (λ e f. let s = station-of i b (notGoing (stationAt i b)) e in
     by (s .0) (stationOf n K (i - 1) b) refl (rw (r .isN, r .isK) at (s .1)))

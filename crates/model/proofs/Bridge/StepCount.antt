@@ -1,12 +1,12 @@
 -- Along a list of calls a station's count grows by its accepted steps, and by nothing else.
--- Relies on StepsTaken and on the calls' laws; it proves the claims of specs/StepCount.antt.
-use Rattle.model.proofs.Kit.{_≡_, refl, sym, ap, _∙_, subst₂, true, _&&_, cond, ⊎-elim, List, [], _∷_, none}
-use Rattle.model.proofs.Kit.{ℕ, _+_, _-_, _≤_, _<_, eqb, eq-eqb, ne-eqb, ℕ-discrete, length, map, arith}
+-- Relies on StepsTaken and OneRecord; it proves the claims of specs/StepCount.antt.
+use Rattle.model.proofs.Kit.{_≡_, refl, sym, ap, _∙_, subst₂, true, _&&_, cond, List, [], _∷_, none, ℕ}
+use Rattle.model.proofs.Kit.{_+_, _-_, _≤_, _<_, eqb, eq-eqb, ne-eqb, ℕ-discrete, length, map, arith}
 use Rattle.model.specs.Bytes.{number, part}
 use Rattle.model.specs.Figure.{Figure}
-use Rattle.model.specs.Listing.{active, accepted}
+use Rattle.model.specs.Listing.{accepted}
 use Rattle.model.specs.Layout.{freshBoard, recordOf, readRecord, fieldsOf}
-use Rattle.model.specs.Calls.{After, RunAnswer, stations, islands, boardRefusal, stationAt, stepsTaken, lay}
+use Rattle.model.specs.Calls.{After, RunAnswer, stations, islands, boardRefusal, stepsTaken, lay}
 use Rattle.model.specs.Calls.{propose, step, run}
 use Rattle.model.specs.Rounds.{RoundsAnswer, roundsRefusal, roundsSteps, playedTo, rounds}
 use Rattle.model.specs.Runs as runs
@@ -15,20 +15,16 @@ use Rattle.model.specs.Proposals.{Proposal, AllFit, proposeAll}
 use Rattle.model.specs.SheetList.{singles}
 use Rattle.model.specs.Claims.{Passes}
 use Rattle.model.specs.StepCount.{stepsBy, stepsIn, StepCount}
-use Rattle.model.proofs.Basics.Tests.{by-test, and-false}
+use Rattle.model.proofs.Basics.Tests.{by-test}
 use Rattle.model.proofs.Board.Codec.{Fits}
-use Rattle.model.proofs.Calls.Refusals.{Board, board-of, laid-fresh, refusal-case, step-on}
-use Rattle.model.proofs.Calls.Refused.{lay-refused, propose-refused, step-refused}
-use Rattle.model.proofs.Calls.Accepted.{stepOn-access}
-use Rattle.model.proofs.Calls.Local.{step-other}
-use Rattle.model.proofs.Calls.StepsTaken.{proposed-on, proposed-none, idle-none, proposed-other, access-steps}
+use Rattle.model.proofs.Calls.Refusals.{Board, board-of, laid-fresh}
+use Rattle.model.proofs.Calls.Refused.{lay-refused, step-refused}
+use Rattle.model.proofs.Calls.StepsTaken.{proposed-on, proposed-none, idle-none, access-steps}
 use Rattle.model.proofs.Calls.StepsTaken.{steps-most, steps-few}
-use Rattle.model.proofs.Calls.CallsKeep.{lay-sound, good-stage}
+use Rattle.model.proofs.Calls.CallsKeep.{good-stage}
 use Rattle.model.proofs.Board.Fresh.{fresh-zero}
-use Rattle.model.proofs.Board.Good.{GoodStage}
-use Rattle.model.proofs.Board.SoundFacts.{SoundBoard}
-use Rattle.model.proofs.Board.Values.{sound-station}
-use Rattle.model.proofs.Bridge.Single.{Ready, propose-ready, step-sim, on-board}
+use Rattle.model.proofs.Bridge.Single.{Ready, by-head, propose-ready}
+use Rattle.model.proofs.Bridge.OneRecord.{at-head, laid-ready, sound-here, own-step, other-step, by-proposal}
 use Rattle.model.proofs.Bridge.Lists.{ready-along}
 use Rattle.model.proofs.Bridge.RunCalls.{ran-calls, steps-allowed, singles-leave, singles-allowed}
 use Rattle.model.proofs.Calls.Runs.{runs-count}
@@ -49,74 +45,42 @@ none-fresh n K j own = ap (λ (r : List ℕ). readRecord r .steps) (fresh-zero n
 
 -- One call on a sound board of n and K, and the count of station number i.
 module _ (n K i : ℕ) (low : 1 ≤ i) (high : i ≤ n) (b : List ℕ) (r : Ready n K b) where
-  own : i - 1 < n
-  own = omega arith
-
-  -- what is said of the size in the head is said of n and K
-  by-size : (P : ℕ → ℕ → Type 0) → P (stations b) (islands b) → P n K
-  by-size P = subst₂ P (r .isN) (r .isK)
-
   -- a proposal leaves the count of every station: one that proposes had none
-  proposing-leaves : (k : ℕ) (v : Figure) → propose k v b .answer ≡ none
-      → taken n K (i - 1) (propose k v b .bytes) ≡ taken n K (i - 1) b
-  proposing-leaves k v a = go (ℕ-discrete (k - 1) (i - 1))
-    where
-      go : Dec (k - 1 ≡ i - 1) → taken n K (i - 1) (propose k v b .bytes) ≡ taken n K (i - 1) b
-      go (yes e) =
-          by-size (λ m L. taken m L (i - 1) (propose k v b .bytes) ≡ taken m L (i - 1) b)
-          (rw (← e) (proposed-none k v b (r .board) a ∙ sym (idle-none k v b (r .board) a)))
-      go (no f) =
-          same-record n K (i - 1) b _
-          (by-size (λ m L. recordOf m L (i - 1) (propose k v b .bytes) ≡ recordOf m L (i - 1) b)
-          (proposed-other k v b (r .board) a (i - 1) (omega (arith, r .isN, own)) f))
+  proposing-leaves : (k : ℕ) (v : Figure) → taken n K (i - 1) (propose k v b .bytes) ≡ taken n K (i - 1) b
+  proposing-leaves k v =
+      by-proposal n K i b r low high (λ d. taken n K (i - 1) d ≡ taken n K (i - 1) b) (same-record n K (i - 1) b) k v
+      (λ a. by-head (λ m L. taken m L (i - 1) (propose i v b .bytes) ≡ taken m L (i - 1) b) r
+      (proposed-none i v b (r .board) a ∙ sym (idle-none i v b (r .board) a)))
 
   few : taken n K (i - 1) b ≤ 3264
-  few = by-size (λ m L. taken m L (i - 1) b ≤ 3264) (steps-few b (r .board) (i - 1) (omega (arith, r .isN, own)))
+  few = by-head (λ m L. taken m L (i - 1) b ≤ 3264) r (steps-few b (r .board) (i - 1) (omega (arith, r .isN)))
 
   -- an accepted step of the station itself
-  own-step : accepted (step i b .answer) ≡ true → taken n K (i - 1) (step i b .bytes) ≡ taken n K (i - 1) b + 1
-  own-step a =
-      let s = step-sim n K i b r a in
-      let q : SoundBoard n K b = rw (r .isN, r .isK) at (r .board .sound-board) in
-      let here : stationAt i b ≡ active (s .proposal) (s .stage) =
-      unfold stationAt in rw (r .isN, r .isK) (s .stands) in
-      let good : GoodStage n K (s .stage) =
-      good-stage n K (s .proposal) (s .stage) (rw (s .stands) at (sound-station n K b q (i - 1) own .good)) in
-      rw (
-        step-on i b (r .board),
-        stepOn-access i b (on-board n K i b r low own) (s .proposal) (s .stage) here (s .goes),
-        r .isN,
-        r .isK,
-      )
-      (access-steps n K b (q .len) (i - 1) own (s .proposal) (s .stage) good (s .goes) (omega (arith, few)))
-
-  -- and one of another station
-  other-step : (k : ℕ) → (i ≡ k → ⊥) → accepted (step k b .answer) ≡ true
-      → taken n K (i - 1) (step k b .bytes) ≡ taken n K (i - 1) b
-  other-step k f a =
-      let s = step-sim n K k b r a in
-      same-record n K (i - 1) b _
-      (by-size (λ m L. recordOf m L (i - 1) (step k b .bytes) ≡ recordOf m L (i - 1) b)
-      (step-other k b (r .board) (i - 1) (omega (arith, r .isN, own)) (λ e. f (omega (arith, s .positive)))))
+  own-adds : accepted (step i b .answer .did) ≡ true → taken n K (i - 1) (step i b .bytes) ≡ taken n K (i - 1) b + 1
+  own-adds a =
+      let s = own-step n K i b r a in
+      rw (s .is)
+      (access-steps n K b (sound-here n K i b r .len) (i - 1) (s .own) (s .proposal) (s .stage)
+      (good-stage n K (s .proposal) (s .stage) (s .station .good)) (s .goes) (omega (arith, few)))
 
   stepping-adds : (k : ℕ) → taken n K (i - 1) (step k b .bytes) ≡ taken n K (i - 1) b + stepsBy i (stepping k) b
   unfolding stepsBy
-  stepping-adds k =
-      by-test (accepted (step k b .answer)) (λ a. go a (ℕ-discrete i k))
-      (λ a. rw (step-refused k b a, a, and-false (eqb i k)) (omega arith))
+  stepping-adds k = go (ℕ-discrete i k)
     where
-      go : accepted (step k b .answer) ≡ true → Dec (i ≡ k)
+      go : Dec (i ≡ k)
           → taken n K (i - 1) (step k b .bytes)
-          ≡ taken n K (i - 1) b + cond (eqb i k && accepted (step k b .answer)) 1 0
-      go a (yes e) = rw (← e, eq-eqb i i refl, rw (← e) at a) (own-step (rw (← e) at a))
-      go a (no f) = rw (ne-eqb i k f) (other-step k f a ∙ omega arith)
+          ≡ taken n K (i - 1) b + cond (eqb i k && accepted (step k b .answer .did)) 1 0
+      go (yes e) =
+          rw (← e, eq-eqb i i refl)
+          (by-test (accepted (step i b .answer .did)) (λ a. rw a (own-adds a))
+          (λ a. rw (step-refused i b a, a) (omega arith)))
+      go (no f) =
+          rw (ne-eqb i k f) (same-record n K (i - 1) b _ (other-step n K i b r low high k f) ∙ omega arith)
 
   call-adds : (c : Call) → Allowed c b → taken n K (i - 1) (called c b) ≡ taken n K (i - 1) b + stepsBy i c b
   unfolding called Allowed stepsBy
   call-adds (laying m L) a = rw (lay-refused m L b (a .0) (a .1)) (omega arith)
-  call-adds (proposing k v) a =
-      ⊎-elim (λ e. proposing-leaves k v e ∙ omega arith) (λ e. rw (propose-refused k v b (e .0) (e .1)) (omega arith))
-      (refusal-case (propose k v b .answer))
+  call-adds (proposing k v) a = proposing-leaves k v ∙ omega arith
   call-adds (stepping k) a = stepping-adds k
 
 list-adds : (n K i : ℕ) → 1 ≤ i → i ≤ n → (cs : List Call) (b : List ℕ) → Ready n K b → AllAllowed cs b
@@ -143,10 +107,6 @@ after-none : (n K i : ℕ) → 1 ≤ i → i ≤ n → (cs : List Call) (b : Lis
     → taken n K (i - 1) b ≡ 0 → stepsTaken i (after cs b) ≡ stepsIn i cs b
 after-none n K i low high cs b r a z = omega (arith, after-ready n K i low high cs b r a)
 
--- a sound board, by its own size
-at-head : (b : List ℕ) → Board b → Ready (stations b) (islands b) b
-at-head b h = record { board = h; isN = refl; isK = refl }
-
 since : (b : List ℕ) → Board b → (i : ℕ) (v : Figure) → Fits v → propose i v b .answer ≡ none → (cs : List Call)
     → AllAllowed cs (propose i v b .bytes)
     → stepsTaken i (after cs (propose i v b .bytes)) ≡ stepsIn i cs (propose i v b .bytes)
@@ -158,12 +118,9 @@ since b h i v f e cs a =
 laid : (n K : ℕ) (lent : List ℕ) → lay n K lent .answer ≡ none → (i : ℕ) → 1 ≤ i → i ≤ n → (cs : List Call)
     → AllAllowed cs (lay n K lent .bytes)
     → stepsTaken i (after cs (lay n K lent .bytes)) ≡ stepsIn i cs (lay n K lent .bytes)
-unfolding stations islands freshBoard
 laid n K lent e i low high cs a =
-    let fresh = laid-fresh n K lent e .1 in
-    after-none n K i low high cs (lay n K lent .bytes)
-    (record { board = lay-sound n K lent e; isN = ap stations fresh; isK = ap islands fresh }) a
-    (rw fresh (none-fresh n K (i - 1) (omega arith)))
+    after-none n K i low high cs (lay n K lent .bytes) (laid-ready n K lent e) a
+    (rw (laid-fresh n K lent e .1) (none-fresh n K (i - 1) (omega arith)))
 
 -- a run and rounds as the list of their steps
 module _ (b : List ℕ) (h : Board b) (i : ℕ) (low : 1 ≤ i) (high : i ≤ stations b) where

@@ -4,6 +4,7 @@ use Rattle.model.proofs.Kit.{_≡_, refl, Bool, true, false, cond, List
 use Rattle.model.specs.Figure.{Figure, figures}
 use Rattle.model.specs.Listing.{Stage, writing, reading, has-decided, is-spent, Station, idle, active, Answer}
 use Rattle.model.specs.Listing.{decided, refused, outcome, move, stay}
+use Rattle.model.specs.Filled.{Report}
 use Rattle.model.specs.Layout.{stationOf}
 use Rattle.model.specs.Calls.{After, stationAt, unlessRefused, notIdle, propose, step}
 use Rattle.model.specs.AnyList.{ends, until}
@@ -17,15 +18,15 @@ use Rattle.model.proofs.Bridge.View.{view, view-station}
 use Rattle.model.proofs.Bridge.Single.{Ready, step-ready, on-board, step-at}
 
 -- the run of a station on bytes that ended as the one on the state did
-pub record Ends (n K : ℕ) (e : Ended Figure) (d : After (Answer Figure)) : Type 0 where
+pub record Ends (n K : ℕ) (e : Ended Figure) (d : After (Report Figure)) : Type 0 where
   pub ready : Ready n K (d .bytes)
-  pub says : d .answer ≡ e .answer
+  pub says : d .answer .did ≡ e .answer
   pub leaves : view n K (d .bytes) ≡ e .state
 
 not-decided : {X : Type 0} {j k : ℕ} {x : Figure} → refused j ≡ decided k x → X
 not-decided e = impossible (cc)
 
-choose : (n K : ℕ) (t : Bool) (d f : After (Answer Figure)) (g h : Ended Figure) (a : Answer Figure) → Ends n K g d
+choose : (n K : ℕ) (t : Bool) (d f : After (Report Figure)) (g h : Ended Figure) (a : Answer Figure) → Ends n K g d
     → (h .answer ≡ a → Ends n K h f) → cond t g h .answer ≡ a → Ends n K (cond t g h) (elim t [ true ↦ d | false ↦ f ])
 choose n K true d f g h a x y e = x
 choose n K false d f g h a x y e = y e
@@ -54,7 +55,7 @@ module _ (n K : ℕ) (i : ℕ) (positive : 1 ≤ i) (own : i - 1 < n) where
     stepping v s e g k x =
         let q = step-at n K i b r positive own v s e g in
         rw (← q .0, ← q .1)
-        (choose n K (ends (step i b .answer)) (step i b) (until fuel i (step i b .bytes)) _ _ (decided k x)
+        (choose n K (ends (step i b .answer .did)) (step i b) (until fuel i (step i b .bytes)) _ _ (decided k x)
         (record { ready = step-ready n K i b r; says = refl; leaves = refl })
         (again (step i b .bytes) (step-ready n K i b r) k x))
 

@@ -87,7 +87,7 @@ module _ (n K i : ℕ) (low : 1 ≤ i) (own : i - 1 < n) (v : Figure) (t : Turn)
     abbrev moved : Move Figure
     moved = move figures n K (reading t c x p a) (R (array t c) p)
 
-    one-read : At (moved .stage) (step i d .bytes) × (step i d .answer ≡ moved .answer)
+    one-read : At (moved .stage) (step i d .bytes) × (step i d .answer .did ≡ moved .answer)
     unfolding alone moving moveOf placeArray placeColumn putWritten
     one-read =
         let s : Stage Figure = reading t c x p a in
@@ -142,7 +142,7 @@ module _ (n K i : ℕ) (low : 1 ≤ i) (own : i - 1 < n) (v : Figure) (t : Turn)
   module _ (b : List ℕ) (r : Ready n K b) (stands : stationOf n K (i - 1) b ≡ active v (writing t c x))
       (others : S ≡ view n K b .station)
       (registers : R ≡ write (array t c) (i - 1) (entry t c x) (view n K b .register)) where
-    written-first : At (reading t c x 0 nothing) (step i b .bytes) × (step i b .answer ≡ wrote)
+    written-first : At (reading t c x 0 nothing) (step i b .bytes) × (step i b .answer .did ≡ wrote)
     unfolding alone moving moveOf move placeArray placeColumn
     written-first =
         let both = step-at n K i b r low own v (writing t c x) stands tt in (
@@ -165,7 +165,7 @@ module _ (n K i : ℕ) (low : 1 ≤ i) (own : i - 1 < n) (v : Figure) (t : Turn)
     last : Move Figure
     last = move figures n K (reading t c x (0 + (n - 1)) (all-reads .seen-so-far)) (R (array t c) (0 + (n - 1)))
 
-    last-read : At (last .stage) (step i before-last .bytes) × (step i before-last .answer ≡ last .answer)
+    last-read : At (last .stage) (step i before-last .bytes) × (step i before-last .answer .did ≡ last .answer)
     unfolding last before-last
     last-read = one-read (0 + (n - 1)) (all-reads .seen-so-far) before-last (all-reads .now-at)
 
@@ -234,7 +234,7 @@ module _ (n K i : ℕ) (low : 1 ≤ i) (own : i - 1 < n) (v : Figure) (t : Turn)
     unfolding answers before-last
     all-answers =
         ap (answers step b) (steps-split n i (omega arith))
-        ∙ ap (λ (l : List (Answer Figure)). step i b .answer ∷ l)
+        ∙ ap (λ (l : List (Answer Figure)). step i b .answer .did ∷ l)
         (answers-append step (step i b .bytes) (replicate (n - 1) i) (i ∷ []))
         ∙ (λ j. written-first .1 j ∷ (all-reads .answered j ++ (last-read .1 j ∷ [])))
 

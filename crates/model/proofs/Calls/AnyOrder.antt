@@ -6,7 +6,7 @@ use Rattle.model.specs.declared.Record.{Record}
 use Rattle.model.specs.Bytes.{Each}
 use Rattle.model.specs.Figure.{Figure}
 use Rattle.model.specs.Listing.{proposed}
-use Rattle.model.specs.Layout.{readRecord, recordFields, withSteps, fieldsOf}
+use Rattle.model.specs.Layout.{readRecord, recordFields, withCounts, fieldsOf}
 use Rattle.model.specs.Calls.{After, Refusal, stations, islands, putRecord, propose}
 use Rattle.model.specs.Claims.{Passes}
 use Rattle.model.specs.Proposals.{Proposal, AllFit, oneByOne, proposeAll}
@@ -23,7 +23,7 @@ use Rattle.model.proofs.Calls.Proposals.{all-accepted, accepted-passed,
 
 -- the record of a station that begins with v
 abbrev begun : (n K j : ℕ) → Figure → List ℕ → Record
-begun n K j v b = recordFields (proposed v) (withSteps 0 (fieldsOf n K j b))
+begun n K j v b = recordFields (proposed v) (withCounts 0 0 (fieldsOf n K j b))
 
 module _ (i j : ℕ) (v w : Figure) (b : List ℕ) (h : Board b) (ne : i ≡ j → ⊥) (fi : Free b i) (fj : Free b j)
     (fits : Fits v) where
@@ -42,7 +42,7 @@ module _ (i j : ℕ) (v w : Figure) (b : List ℕ) (h : Board b) (ne : i ≡ j �
       (accepts j w (propose i v b .bytes) (propose-keeps i v fits b h) (free-stays i v b h fi j e fj))
       ∙ rw (same-stations i v b h fi, same-islands i v b h fi)
       ((λ k. putRecord (stations b) (islands b) (j - 1)
-      (recordFields (proposed w) (withSteps 0 (readRecord (other-record i v b h fi j e (free-of j b fj .0) k))))
+      (recordFields (proposed w) (withCounts 0 0 (readRecord (other-record i v b h fi j e (free-of j b fj .0) k))))
       (accepts i v b h fi k .bytes)))
 
 pub commute : (i j : ℕ) (v w : Figure) (b : List ℕ) → Board b → (i ≡ j → ⊥) → Free b i → Free b j → Fits v → Fits w

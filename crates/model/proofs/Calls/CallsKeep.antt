@@ -5,7 +5,8 @@ use Rattle.model.specs.declared.Record.{Record}
 use Rattle.model.specs.Bytes.{byte}
 use Rattle.model.specs.Figure.{Figure}
 use Rattle.model.specs.Listing.{Register, Array, Stage, writing, reading, has-decided, is-spent, Station, idle}
-use Rattle.model.specs.Listing.{active, array, entry, refused, proposed}
+use Rattle.model.specs.Listing.{active, array, entry, proposed}
+use Rattle.model.specs.Filled.{refusal}
 use Rattle.model.specs.Layout.{boardLength, freshBoard, recordOf, stationOf, changed}
 use Rattle.model.specs.Sound.{ownWritten, ownPassed}
 use Rattle.model.specs.Calls.{stations, islands, stationAt, lay, putRecord, notIdle, propose, notGoing, access}
@@ -16,7 +17,7 @@ use Rattle.model.proofs.Board.Boards.{record-head, register-head, regis
 use Rattle.model.proofs.Board.Good.{GoodStation, GoodStage}
 use Rattle.model.proofs.Calls.Access.{write-bytes, read-bytes}
 use Rattle.model.proofs.Board.SoundFacts.{SoundBoard}
-use Rattle.model.proofs.Board.Values.{array-inside, station-Fits, SoundStation, sound-station, sound-steps}
+use Rattle.model.proofs.Board.Values.{array-inside, station-Fits, SoundStation, sound-station, sound-counts}
 use Rattle.model.proofs.Board.Keeps.{sound-but, station-keeps}
 use Rattle.model.proofs.Listing.Going.{Going}
 use Rattle.model.proofs.Calls.StepKeeps.{access-keeps}
@@ -95,7 +96,7 @@ pub stepOn-leaves : {X : Type 0} (of : List ℕ → X) (i : ℕ) (b : List ℕ) 
     → (i - 1 < stations b → Leaves of (stations b) (islands b) (i - 1) b) → of (stepOn i b .bytes) ≡ of b
 unfolding stepOn stationAt
 stepOn-leaves of i b h leaves =
-    call-case (λ a. of (a .bytes) ≡ of b) _ refused b _
+    call-case (λ a. of (a .bytes) ≡ of b) _ refusal b _
     (λ e. let s = station-of i b _ e in
     let own = index-inside i b (s .0) in
     stepped-leaves of _ _ b (h .sound-board .len) (i - 1) own (leaves own) (stationAt i b)
@@ -139,7 +140,7 @@ propose-keeps i v fits b h =
     (λ e. let own = index-inside i b (station-of i b _ (board-of b _ e .1) .0) in
     let positive : 0 < islands b = omega (arith, h .shape .islands-low) in
     station-keeps (i - 1) _ _ b (sound-but (i - 1) _ _ b (h .sound-board)) own positive v _ _
-    (proposed-fits v fits) (proposed-sound _ _ (i - 1) b v positive) (omega arith))
+    (proposed-fits v fits) (proposed-sound _ _ (i - 1) b v positive) (record { steps = omega arith; met = omega arith }))
     (λ k e. h .sound-board))
 
 -- ---- stepping
@@ -154,13 +155,13 @@ unfolding stepped
 stepped-sound n K i b q positive own idle e g = q
 stepped-sound n K i b q positive own (active v s) e g =
     access-keeps n K b q positive i own v s (going-of v s g) (rw e at (station-of-fits n K i b))
-    (rw e at (sound-station n K b q i own)) (rw e at (sound-steps n K b q i own))
+    (rw e at (sound-station n K b q i own)) (rw e at (sound-counts n K b q i own))
 
 pub stepOn-keeps : (i : ℕ) (b : List ℕ) → Board b → Board (stepOn i b .bytes)
 unfolding stepOn stationAt
 stepOn-keeps i b h =
     board-again b (stepOn i b .bytes) h (stepOn-head i b h)
-    (call-case (λ a. SoundBoard (stations b) (islands b) (a .bytes)) _ refused b _
+    (call-case (λ a. SoundBoard (stations b) (islands b) (a .bytes)) _ refusal b _
     (λ e. let s = station-of i b _ e in
     let positive : 0 < islands b = omega (arith, h .shape .islands-low) in
     stepped-sound _ _ (i - 1) b (h .sound-board) positive (index-inside i b (s .0)) _ refl (s .1))

@@ -8,7 +8,7 @@ use Rattle.model.specs.Sound.{sound}
 use Rattle.model.specs.Calls.{After, Refusal, unless, Ranges, ranges, shapeRefusal, stations, islands}
 use Rattle.model.specs.Calls.{boardRefusal}
 use Rattle.model.specs.Calls.{stationRefusal, unlessRefused, lay, stepOn, step}
-use Rattle.model.specs.Listing.{refused}
+use Rattle.model.specs.Filled.{refusal}
 use Rattle.model.proofs.Basics.Tests.{and-l, and-r, and-i, T-true, no-T}
 use Rattle.model.proofs.Board.SoundFacts.{SoundBoard, sound-facts, facts-sound}
 
@@ -199,4 +199,4 @@ index-inside i b h = omega (arith, h .low, h .high)
 -- A step on a board known to be sound need not test it.
 pub step-on : (i : ℕ) (b : List ℕ) → Board b → step i b ≡ stepOn i b
 unfolding step unlessRefused
-step-on i b h = ap (λ (r : Refusal). unlessRefused r refused b (stepOn i b)) (board-passes b h none)
+step-on i b h = ap (λ (r : Refusal). unlessRefused r refusal b (stepOn i b)) (board-passes b h none)

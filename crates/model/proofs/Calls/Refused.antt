@@ -5,7 +5,8 @@ use Rattle.model.proofs.Kit.{replicate, arith}
 use Rattle.model.specs.Figure.{Figure, figures}
 use Rattle.model.specs.Listing.{Order, Turn, Register, Seen, Stage, writing, reading, has-decided, is-spent}
 use Rattle.model.specs.Listing.{Station, idle}
-use Rattle.model.specs.Listing.{active, Answer, refused, accepted, outcome, Move, stay, see, move}
+use Rattle.model.specs.Listing.{active, accepted, outcome, Move, stay, see, move}
+use Rattle.model.specs.Filled.{Report, refusal}
 use Rattle.model.specs.Calls.{After, Refusal, RunAnswer, notRun, boardRefusal, stationRefusal, stationAt}
 use Rattle.model.specs.Calls.{stations}
 use Rattle.model.specs.Calls.{islands, lay, propose, notGoing, access, stepped, stepOn, step, run}
@@ -49,7 +50,7 @@ read-accepts {F} K o n t c x p a r =
     read-case K Accepts c t x o n p a r (λ l. refl) (λ l. ended-case K Accepts c t x (see o t a r) (search))
 
 pub access-accepts : (n K i : ℕ) (v : Figure) (s : Stage Figure) (b : List ℕ) → Going s
-    → accepted (access n K i v s b .answer) ≡ true
+    → accepted (access n K i v s b .answer .did) ≡ true
 unfolding access move accepted outcome
 access-accepts n K i v (writing t c x) b h = refl
 access-accepts n K i v (reading t c x p a) b h = read-accepts K figures n t c x p a _
@@ -59,31 +60,31 @@ access-accepts n K i v (is-spent c x) b h = absurd h
 -- ---- a refused step
 
 stepped-refused : (n K i : ℕ) (z : Station Figure) (b : List ℕ) → notGoing z ≡ none
-    → accepted (stepped n K i z b .answer) ≡ false
+    → accepted (stepped n K i z b .answer .did) ≡ false
     → stepped n K i z b .bytes ≡ b
 unfolding stepped
 stepped-refused n K i idle b g e = refl
 stepped-refused n K i (active v s) b g e = clash (sym (access-accepts n K i v s b (going-of v s g)) ∙ e)
 
-pub stepOn-refused : (i : ℕ) (b : List ℕ) → accepted (stepOn i b .answer) ≡ false → stepOn i b .bytes ≡ b
+pub stepOn-refused : (i : ℕ) (b : List ℕ) → accepted (stepOn i b .answer .did) ≡ false → stepOn i b .bytes ≡ b
 unfolding stepOn
 stepOn-refused i b =
-    call-case (λ (a : After (Answer Figure)). accepted (a .answer) ≡ false → a .bytes ≡ b)
-    (stationRefusal i b (notGoing (stationAt i b))) refused b _
+    call-case (λ (a : After (Report Figure)). accepted (a .answer .did) ≡ false → a .bytes ≡ b)
+    (stationRefusal i b (notGoing (stationAt i b))) refusal b _
     (λ e f. stepped-refused (stations b) (islands b) (i - 1) (stationAt i b) b (station-of i b _ e .1) f)
     (λ k e f. refl)
 
 -- and so does every step of that station that would follow
-pub refused-again : (i : ℕ) (b : List ℕ) → accepted (stepOn i b .answer) ≡ false → (k : ℕ)
+pub refused-again : (i : ℕ) (b : List ℕ) → accepted (stepOn i b .answer .did) ≡ false → (k : ℕ)
     → after stepOn b (replicate k i) ≡ b
 unfolding after
 refused-again i b e zero = refl
 refused-again i b e (suc k) =
     ap (λ (d : List ℕ). after stepOn d (replicate k i)) (stepOn-refused i b e) ∙ refused-again i b e k
 
-pub step-refused : (i : ℕ) (b : List ℕ) → accepted (step i b .answer) ≡ false → step i b .bytes ≡ b
+pub step-refused : (i : ℕ) (b : List ℕ) → accepted (step i b .answer .did) ≡ false → step i b .bytes ≡ b
 unfolding step
 step-refused i b =
-    call-case (λ (a : After (Answer Figure)). accepted (a .answer) ≡ false → a .bytes ≡ b)
-    (boardRefusal b none) refused b (stepOn i b)
+    call-case (λ (a : After (Report Figure)). accepted (a .answer .did) ≡ false → a .bytes ≡ b)
+    (boardRefusal b none) refusal b (stepOn i b)
     (λ e f. stepOn-refused i b f) (λ k e f. refl)

@@ -5,6 +5,7 @@ use Rattle.model.proofs.Kit.{_≤_, _<_, leb, le→leb, length, zero-ad
 use Rattle.model.specs.Bytes.{byte}
 use Rattle.model.specs.Figure.{Figure}
 use Rattle.model.specs.Listing.{Answer, accepted}
+use Rattle.model.specs.Filled.{Report}
 use Rattle.model.specs.Calls.{After, RunAnswer, ran, notRun, ranFrom, run, boardRefusal, unlessRefused, stepOn}
 use Rattle.model.specs.Calls.{step}
 use Rattle.model.specs.Runs.{taken, passed, after, answers, RunsCount}
@@ -34,7 +35,7 @@ one-more : (a : Bool) (s t k : ℕ) → s + t ≡ k → cond a 1 0 + s + (cond a
 one-more true s t k e = omega arith
 one-more false s t k e = omega arith
 
-module _ (one : ℕ → List ℕ → After (Answer Figure)) where
+module _ (one : ℕ → List ℕ → After (Report Figure)) where
   -- steps over two lists are those over the second from where the first ended
   pub after-append : (b is js : List ℕ) → after one b (is ++ js) ≡ after one (after one b is) js
   unfolding after
@@ -54,13 +55,13 @@ module _ (one : ℕ → List ℕ → After (Answer Figure)) where
   ran-is s t [] b = same-counts b (omega arith) (omega arith)
   ran-is s t (i ∷ is) b =
       rw (ran-is (s + 1) t is (one i b .bytes), ran-is s (t + 1) is (one i b .bytes))
-      (one-counted (accepted (one i b .answer)) s t _ _ _)
+      (one-counted (accepted (one i b .answer .did)) s t _ _ _)
 
   -- S and T together are all of them
   pub ran-both : (b is : List ℕ) → taken (answers one b is) + passed (answers one b is) ≡ length is
   unfolding answers taken passed
   ran-both b [] = refl
-  ran-both b (i ∷ is) = one-more (accepted (one i b .answer)) _ _ _ (ran-both (one i b .bytes) is)
+  ran-both b (i ∷ is) = one-more (accepted (one i b .answer .did)) _ _ _ (ran-both (one i b .bytes) is)
 
 -- Every board on the way is sound, so that no step need test it.
 pub ran-on : (s t : ℕ) (is b : List ℕ) → Board b → ranFrom step s t is b ≡ ranFrom stepOn s t is b

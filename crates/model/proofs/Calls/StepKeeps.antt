@@ -10,7 +10,8 @@ use Rattle.model.specs.Listing.{Flag, adopt, commit, flagNumber, Turn, t
 use Rattle.model.specs.Listing.{nothing, Stage, writing, reading, has-decided, is-spent, active, array, entry}
 use Rattle.model.specs.Listing.{Move, stay, see, move, placeArray, placeColumn}
 use Rattle.model.specs.Layout.{layRegister, registerFields, registerOf, fieldsOf, changed}
-use Rattle.model.specs.Sound.{registerSound, sameRegister, ownWritten, ownSeen, ownPassed, mostSteps}
+use Rattle.model.specs.Sound.{registerSound, sameRegister, ownWritten, ownSeen, ownPassed, mostSteps, mostMet}
+use Rattle.model.specs.Filled.{metKeptAt}
 use Rattle.model.specs.Calls.{putRegister, access}
 use Rattle.model.proofs.Listing.Going.{Going}
 use Rattle.model.proofs.Basics.Tests.{true-T, implies-use, implies-make}
@@ -23,9 +24,11 @@ use Rattle.model.proofs.Listing.Cases.{ended-case, read-case}
 use Rattle.model.proofs.Listing.OneRead.{own-kept, own-met}
 use Rattle.model.proofs.Listing.Moves.{move-good, move-fits}
 use Rattle.model.proofs.Listing.MostSteps.{write-room, read-room}
+use Rattle.model.proofs.Listing.MostMet.{met-room}
 use Rattle.model.proofs.Calls.Access.{write-bytes, read-bytes}
 use Rattle.model.proofs.Board.SoundFacts.{marksIn, islandsIn, registerTest, SoundBoard}
-use Rattle.model.proofs.Board.Values.{array-inside, register-same-refl, SoundStation, own-register, readable}
+use Rattle.model.proofs.Board.Values.{array-inside, register-same-refl, SoundStation, Counts, own-register}
+use Rattle.model.proofs.Board.Values.{readable}
 use Rattle.model.proofs.Board.Keeps.{sound-but, register-keeps, station-keeps}
 
 -- ---- the register that a write puts down
@@ -57,9 +60,9 @@ entry-fits turnA c x h = h
 entry-fits (turnB f) c x h = h
 
 module _ (n K : ℕ) (b : List ℕ) (q : SoundBoard n K b) (hK : 0 < K) (i : ℕ) (own : i < n) (v : Figure) where
-  -- the steps that the station's record counts, before this one, where it stands at stage s
+  -- what the station's record counts before this step, where it stands at stage s
   abbrev Counted : Stage Figure → Type 0
-  Counted s = fieldsOf n K i b .steps ≤ mostSteps n (active v s)
+  Counted s = Counts n (active v s) (fieldsOf n K i b)
 
   -- a write: the register is put in, and then the record, which says just that
   module _ (t : Turn) (c : ℕ) (x : Figure) (fits : FitsStation (active v (writing t c x)))
@@ -89,14 +92,14 @@ module _ (n K : ℕ) (b : List ℕ) (q : SoundBoard n K b) (hK : 0 < K) (i : ℕ
     }
 
     write-keeps : SoundBoard n K (access n K i v (writing t c x) b .bytes)
-    unfolding between GoodStation GoodStage FitsStation FitsStage FitsSeen changed
+    unfolding between GoodStation GoodStage FitsStation FitsStage FitsSeen changed metKeptAt
     write-keeps =
         subst⁻¹ (SoundBoard n K) (write-bytes n K i v b t c x)
         (station-keeps i n K between
         (register-keeps i n K b (sound-but i n K b q) (array t c) inside own (entry t c x)
         (true-T _ (entry-sound K t c x (g .good))))
         own hK v (reading t c x 0 nothing) _ (fits .0, (fits .1, tt)) begun
-        (omega (arith, few, write-room n K v t c x)))
+        (record { steps = omega (arith, few .steps, write-room n K v t c x); met = omega arith }))
 
   -- a read: the record alone is put in
   module _ (t : Turn) (c : ℕ) (x : Figure) (p : ℕ) (a : Seen Figure) (fits : FitsStation (active v (reading t c x p a)))
@@ -156,7 +159,10 @@ module _ (n K : ℕ) (b : List ℕ) (q : SoundBoard n K b) (hK : 0 < K) (i : ℕ
         subst⁻¹ (SoundBoard n K) (read-bytes n K i v b t c x p a)
         (station-keeps i n K b (sound-but i n K b q) own hK v (moved .stage) _
         (fits .0, move-fits n K (reading t c x p a) met (fits .1) (readable n K b q i own v (reading t c x p a) g))
-        gone-on (omega (arith, few, room)))
+        gone-on (record {
+          steps = omega (arith, few .steps, room);
+          met = met-room n K v t c x p a met _ (unfold mostMet in few .met);
+        }))
 
   -- An accepted step of station index i, which stands at stage s, keeps the board sound.
   pub access-keeps : (s : Stage Figure) → Going s → FitsStation (active v s) → SoundStation n K i b (active v s)

@@ -12,10 +12,10 @@ use Rattle.model.specs.Sound.{mostSteps}
 use Rattle.model.specs.Calls.{After, Refusal, stations, islands, stationAt, putRecord, putProposal, propose}
 use Rattle.model.specs.Calls.{access}
 use Rattle.model.proofs.Basics.Numbers.{number-digits}
-use Rattle.model.proofs.Board.Codec.{steps-stay, steps-back}
+use Rattle.model.proofs.Board.Codec.{counts-stay, steps-back}
 use Rattle.model.proofs.Board.Boards.{record-same, record-other, register-length}
 use Rattle.model.proofs.Board.Good.{GoodStage}
-use Rattle.model.proofs.Board.Values.{array-inside, sound-station, sound-steps}
+use Rattle.model.proofs.Board.Values.{array-inside, sound-station, sound-counts}
 use Rattle.model.proofs.Listing.Going.{Going}
 use Rattle.model.proofs.Listing.MostSteps.{most-steps}
 use Rattle.model.proofs.Calls.Access.{write-bytes, read-bytes}
@@ -28,7 +28,7 @@ module _ (b : List ℕ) (h : Board b) (j : ℕ) (own : j < stations b) where
   steps-most =
       omega (
         arith,
-        sound-steps _ _ b (h .sound-board) j own,
+        sound-counts _ _ b (h .sound-board) j own .steps,
         most-steps (stations b) (islands b) (stationOf (stations b) (islands b) j b)
             (sound-station _ _ b (h .sound-board) j own .good),
       )
@@ -45,7 +45,7 @@ pub record-steps : (n K : ℕ) (b : List ℕ) → length b ≡ boardLength n K �
     → f .steps < 65536 → fieldsOf n K j (putRecord n K j (recordFields s f) b) .steps ≡ f .steps
 record-steps n K b len j own s f h =
     ap (λ (r : List ℕ). readRecord r .steps) (record-same n K b len j own _) ∙ steps-back (recordFields s f)
-    ∙ ap (λ (x : ℕ). number (digits 2 x)) (steps-stay s f) ∙ number-digits 2 (f .steps) h
+    ∙ ap (λ (x : ℕ). number (digits 2 x)) (counts-stay s f .0) ∙ number-digits 2 (f .steps) h
 
 -- ---- an accepted step
 
@@ -66,7 +66,7 @@ access-steps n K b len j own v (is-spent c x) g h few = absurd h
 -- ---- a proposal on the sound board b
 
 module _ (i : ℕ) (v : Figure) (b : List ℕ) (h : Board b) (a : propose i v b .answer ≡ none) where
-  proposes : (P : List ℕ → Type 0)
+  pub proposes : (P : List ℕ → Type 0)
       → (OnBoard i b → stationAt i b ≡ idle → P (putProposal (stations b) (islands b) (i - 1) v b))
       → P (propose i v b .bytes)
   unfolding propose
@@ -90,7 +90,7 @@ module _ (i : ℕ) (v : Figure) (b : List ℕ) (h : Board b) (a : propose i v b 
   idle-none =
       proposes (λ d. fieldsOf (stations b) (islands b) (i - 1) b .steps ≡ 0)
       (λ on e. let own = index-inside i b on in
-      omega (arith, ap (mostSteps (stations b)) e, sound-steps _ _ b (h .sound-board) (i - 1) own))
+      omega (arith, ap (mostSteps (stations b)) e, sound-counts _ _ b (h .sound-board) (i - 1) own .steps))
 
   pub proposed-other : (j : ℕ) → j < stations b → (i - 1 ≡ j → ⊥)
       → recordOf (stations b) (islands b) j (propose i v b .bytes) ≡ recordOf (stations b) (islands b) j b

@@ -5,7 +5,7 @@ use Rattle.model.proofs.Kit.{ℕ, _≤_, _<_, lt-leb, leb-true, leb-fal
 use Rattle.model.proofs.Kit.{drop, take-append-drop}
 use Rattle.model.specs.Figure.{Figure}
 use Rattle.model.specs.Layout.{boardLength}
-use Rattle.model.specs.Listing.{refused}
+use Rattle.model.specs.Filled.{refusal}
 use Rattle.model.specs.Calls.{After, Refusal, RunAnswer, ran, notRun, unless, boardRefusal, unlessRefused, lay}
 use Rattle.model.specs.Calls.{step, stepOn, ranFrom, run, stations}
 use Rattle.model.specs.Calls as calls
@@ -32,7 +32,7 @@ steps-refused : (is b : List ℕ) (k : ℕ) → boardRefusal b none ≡ some k �
 unfolding after called step unlessRefused
 steps-refused [] b k e = refl
 steps-refused (i ∷ is) b k e =
-    ap (λ (r : Refusal). after (map stepping is) (unlessRefused r refused b (stepOn i b) .bytes)) e
+    ap (λ (r : Refusal). after (map stepping is) (unlessRefused r refusal b (stepOn i b) .bytes)) e
     ∙ steps-refused is b k e
 
 module _ (is b : List ℕ) where

@@ -1,7 +1,7 @@
 -- The packing: what each return of a packing function has to show.
 -- Relies on the packing's definitions; the functions' proofs rely on it.
 use Rattle.model.proofs.Kit.{_≡_, refl, sym, ap, subst, _∙_, ℕ, zero, suc, _+_, _≤_, _<_, _*_, w32, ofZ, SFits}
-use Rattle.model.proofs.Kit.{mul-le-mul, arith}
+use Rattle.model.proofs.Kit.{Bool, cond, mul-le-mul, arith}
 use mir.Facts.{fits-ofZ}
 use Rattle.model.specs.Figure.{Figure}
 use Rattle.model.specs.declared.RunVerdict.{RunVerdict}
@@ -11,7 +11,7 @@ use Rattle.model.specs.declared.RoundsVerdict.the-variants.{Played}
 use Rattle.model.specs.declared.Standing.{Standing}
 use Rattle.model.specs.declared.StandingAnswer.{StandingAnswer}
 use Rattle.model.specs.declared.StandingAnswer.the-variants.{Stands}
-use Rattle.packing.specs.Packing.{bits, packedAt, standingPart, packStanding, packWord, Few, FewRounds}
+use Rattle.packing.specs.Packing.{bits, packedAt, packed, standingPart, packStanding, packWord, Few, FewRounds}
 use Rattle.packing.specs.Packing.{FewSteps}
 use Rattle.model.specs.Told.{standingTold, standingAnswered}
 
@@ -28,6 +28,30 @@ alone place k = omega arith
 pub tells : {A : Type 0} (f : A → ℕ) (a x : A) (r place kind c : ℕ) (v z : Figure) → a ≡ x
     → r ≡ packedAt place 0 kind c (bits z) → packedAt place 0 kind c (bits v) ≡ f x → z ≡ v → r ≡ f a
 tells f a x r place kind c v z e h p s = h ∙ ap (λ (y : Figure). packedAt place 0 kind c (bits y)) s ∙ p ∙ ap f (sym e)
+
+-- ---- a step, beside what it met
+
+pub nothing-met : (k : ℕ) → k ≡ packed k 0 0 0 + 0 * 16777216
+nothing-met k = omega (arith, alone 65536 k)
+
+pub read-as : (l b : Bool) → l ≡ b → 512 + cond b 1 0 * 16777216 ≡ 512 + cond l 1 0 * 16777216
+read-as l b e = ap (λ (x : Bool). 512 + cond x 1 0 * 16777216) (sym e)
+
+-- the total of a collect has room over the other parts
+pub end-fits : (r kind c t : ℕ) (v z : Figure) → r ≡ packedAt 65536 0 kind c (bits z) → z ≡ v → SFits w32 v → kind < 256
+    → c < 256 → t < 256 → r + t * 16777216 < 18446744073709551616
+unfolding packedAt bits
+end-fits r kind c t v z h s fits k l m = omega (arith, h, ap (ofZ w32) s, fits-ofZ fits .fits)
+
+pub end-is : (r kind c t : ℕ) (v z : Figure) → r ≡ packedAt 65536 0 kind c (bits z) → z ≡ v
+    → r + t * 16777216 ≡ packed 0 kind c (bits v) + t * 16777216
+end-is r kind c t v z h s = ap (λ (x : ℕ). x + t * 16777216) (h ∙ ap (λ (y : Figure). packed 0 kind c (bits y)) s)
+
+-- an answer a is packed as the end x of a collect that it is
+pub ends : {A : Type 0} (f : A → ℕ) (a x : A) (r kind c t : ℕ) (v z : Figure) → a ≡ x
+    → r ≡ packed 0 kind c (bits z) + t * 16777216 → packed 0 kind c (bits v) + t * 16777216 ≡ f x → z ≡ v → r ≡ f a
+ends f a x r kind c t v z e h p s =
+    h ∙ ap (λ (y : Figure). packed 0 kind c (bits y) + t * 16777216) s ∙ p ∙ ap f (sym e)
 
 -- ---- the parts side by side
 

@@ -9,7 +9,7 @@ use Rattle.model.specs.Bytes.{part, splice}
 use Rattle.model.specs.Figure.{Figure}
 use Rattle.model.specs.Listing.{proposed}
 use Rattle.model.specs.Layout.{recordAt, readRecord, layRecord, recordFields, writingOf, readingOf, ofPhase}
-use Rattle.model.specs.Layout.{recordValue, recordOf, withSteps}
+use Rattle.model.specs.Layout.{recordValue, recordOf, withCounts}
 use Rattle.model.specs.Calls.{After, Refusal, stations, islands, boardRefusal, unlessRefused, putRecord}
 use Rattle.model.specs.Calls.{notIdle, proposalRefusal, propose}
 use Rattle.model.specs.Told.{verdict}
@@ -93,12 +93,12 @@ module _ (i : ℕ) (b : List ℕ) (sound : boardRefusal b none ≡ none) (free :
 
   pub put-in : (v : Figure) → SFits w32 v → (at : ℕ) → at ≡ recordAt (getD b 0 0) (getD b 1 0) (i - 1)
       → (f g : Record) → f ≡ readRecord (part at 24 b)
-      → g ≡ recordFields (proposed (toZ w32 (ofZ w32 v))) (withSteps 0 f)
+      → g ≡ recordFields (proposed (toZ w32 (ofZ w32 v))) (withCounts 0 0 f)
       → (d : List ℕ) → d ≡ splice at (layRecord g) b → d ≡ propose i v b .bytes
   unfolding putRecord recordOf stations islands
   put-in v fits at here f g ef eg d ed =
       let own = eg ∙ (λ k. recordFields (proposed (toZ-ofZ fits k))
-      (withSteps 0 ((ef ∙ ap (λ (x : ℕ). readRecord (part x 24 b)) here) k))) in
+      (withCounts 0 0 ((ef ∙ ap (λ (x : ℕ). readRecord (part x 24 b)) here) k))) in
       ed ∙ (λ k. splice (here k) (layRecord (own k)) b)
       ∙ sym (ap (λ (a : After Refusal). a .bytes) (accepts i v b (board-of b none sound .0) free))
 

@@ -1,8 +1,8 @@
--- A record of a board by the tests that the code makes: the bytes without a field, the fields, the steps, the own
+-- A record of a board by the tests that the code makes: the bytes without a field, the fields, the counts, the own
 -- register.
 -- Relies on the layout, the model's laws of a record's parts and codec's of reads; the proofs of records rely on it.
 use Rattle.model.proofs.Kit.{_≡_, refl, sym, ap, subst, _∙_, Bool, true, false, _&&_, List, [], _∷_, ℕ, suc, _+_, _≤_}
-use Rattle.model.proofs.Kit.{_<_, le-ltb, leb→le, eq-eqb, eqb, lit≤, T, length, replicate, w8, w64, Fits, mul-le-mul}
+use Rattle.model.proofs.Kit.{_<_, le-ltb, leb→le, eq-eqb, ne-eqb, eqb, lit≤, T, length, replicate, w8, w64, Fits, mul-le-mul}
 use Rattle.model.proofs.Kit.{not, lit<, add-zero, lt-of-not-le, arith}
 use native.Mathlib.Decide.{decLe}
 use Rattle.model.specs.declared.Record.{Record}
@@ -11,11 +11,13 @@ use Rattle.model.specs.Layout.{boardLength, recordAt, recordOf, readRecord, lay
 use Rattle.model.specs.Layout.{tailAt, tail}
 use Rattle.model.specs.Sound.{phaseKnown, positionInside, islandInside, bestInside, flagKnown, restZero, idleZero}
 use Rattle.model.specs.Sound.{collectZero, bestIslandZero, bestZero, seenKnown}
-use Rattle.model.specs.Sound.{fieldsSound, ownWritten, ownPassed, stepsKept, recordSound}
-use Rattle.model.proofs.Board.Codec.{station, length-record, steps-back}
+use Rattle.model.specs.Sound.{fieldsSound, ownWritten, ownPassed, stepsKept, metKept, recordSound}
+use Rattle.model.proofs.Board.Codec.{length-record, steps-back}
 use Rattle.model.proofs.Basics.Numbers.{Bytes, number-digits}
-use Rattle.model.proofs.Basics.Tests.{both, and-false, and-l, and-r, and-i, true-T, no-T, zeros-is, implies-use}
-use Rattle.model.proofs.Basics.Parts.{part-Bytes}
+use Rattle.model.proofs.Basics.Tests.{both, and-false, and-l, and-r, and-i, true-T, T-true, no-T, zeros-is}
+use Rattle.model.proofs.Basics.Tests.{implies-use}
+use Rattle.record_soundness.specs.Groups.{laid}
+use Rattle.model.proofs.Basics.Parts.{part-Bytes, listed, part-listed}
 use Rattle.model.proofs.Basics.Splices.{length-part, byte-part}
 use Rattle.model.proofs.Board.Canon.{laid-fields}
 use Rattle.model.proofs.Board.Places.{record-inside}
@@ -54,6 +56,13 @@ unfolding fieldsSound phaseKnown
 phase-inside n K f e =
     let t = true-T (fieldsSound n K (f .phase) (layRecord f)) e in
     leb→le (f .phase) 8 (search (and-l, and-r) depth 12)
+
+-- and zeros where no collect is under way
+pub collect-rests : (n K : ℕ) (f : Record) → fieldsSound n K (f .phase) (layRecord f) ≡ true
+    → laid collectZero f ≡ true
+unfolding fieldsSound
+collect-rests n K f e =
+    let t = true-T (fieldsSound n K (f .phase) (layRecord f)) e in T-true _ (search (and-l, and-r) depth 12)
 
 -- and counts no step while it is idle
 pub idle-none : (n K : ℕ) (f : Record) → fieldsSound n K (f .phase) (layRecord f) ≡ true → f .steps < 65536
@@ -161,11 +170,21 @@ module _ {n k i at : ℕ} {b : List ℕ} (p : Placed n k i at b) where
       → false ≡ recordSound n k i b (recordOf n k i b)
   rest q = fails (sym (fields-rest n k (byte (recordOf n k i b) 0) (recordOf n k i b) q))
 
-  pub gap-fails : zeros (part (at + gapAt) gap b) ≡ false → false ≡ recordSound n k i b (recordOf n k i b)
+  -- the one byte of the gap
+  gap-byte : zeros (part (at + gapAt) gap b) ≡ eqb (byte b (at + gapAt)) 0
+  unfolding listed zeros
+  gap-byte =
+      ap zeros (part-listed (at + gapAt) gap b (omega (arith, record-place)))
+      ∙ sym (and-true _) ∙ ap (λ (x : ℕ). eqb (byte b x) 0) (add-zero (at + gapAt))
+
+  pub gap-zero : byte b (at + gapAt) ≡ 0 → zeros (part (at + gapAt) gap b) ≡ true
+  gap-zero e = gap-byte ∙ eq-eqb (byte b (at + gapAt)) 0 e
+
+  pub gap-fails : (byte b (at + gapAt) ≡ 0 → ⊥) → false ≡ recordSound n k i b (recordOf n k i b)
   unfolding restZero
-  gap-fails q =
+  gap-fails ne =
       rest (ap (λ (x : Bool). x && zeros (part tailAt tail (recordOf n k i b)))
-      (sym (zeros-in gapAt gap (lit≤ tt)) ∙ q))
+      (sym (zeros-in gapAt gap (lit≤ tt)) ∙ gap-byte ∙ ne-eqb (byte b (at + gapAt)) 0 ne))
 
   pub tail-fails : zeros (part (at + tailAt) tail b) ≡ false → false ≡ recordSound n k i b (recordOf n k i b)
   unfolding restZero
@@ -175,14 +194,14 @@ module _ {n k i at : ℕ} {b : List ℕ} (p : Placed n k i at b) where
       ∙ and-false (zeros (part gapAt gap (recordOf n k i b))))
 
   module _ (bytes : (j : ℕ) → Fits w8 (byte b j)) (f : Record) (read : f ≡ readRecord (part at 24 b)) where
-    module _ (front : zeros (part (at + gapAt) gap b) ≡ true) (back : zeros (part (at + tailAt) tail b) ≡ true) where
+    module _ (front : byte b (at + gapAt) ≡ 0) (back : zeros (part (at + tailAt) tail b) ≡ true) where
       whole : recordOf n k i b ≡ layRecord f
       unfolding restZero
       whole =
           sym (laid-fields (recordOf n k i b) (ap length (sym here) ∙ length-part at 24 b record-place)
           (subst Bytes here (part-Bytes at 24 b (all-bytes b bytes)))
           (and-i (zeros (part gapAt gap (recordOf n k i b))) (zeros (part tailAt tail (recordOf n k i b)))
-          (true-T _ (sym (zeros-in gapAt gap (lit≤ tt)) ∙ front))
+          (true-T _ (sym (zeros-in gapAt gap (lit≤ tt)) ∙ gap-zero front))
           (true-T _ (sym (zeros-in tailAt tail (lit≤ tt)) ∙ back))))
           ∙ ap layRecord (ap readRecord (sym here) ∙ sym read)
 
@@ -198,30 +217,31 @@ module _ {n k i at : ℕ} {b : List ℕ} (p : Placed n k i at b) where
           → false ≡ recordSound n k i b (recordOf n k i b)
       fields-fail q = fails (sym fields-is ∙ q)
 
-      steps-are : stepsKept n (f .steps) (recordValue f)
-          ≡ stepsKept n (readRecord (recordOf n k i b) .steps) (station (recordOf n k i b))
-      steps-are = λ s. stepsKept n (same s .steps) (recordValue (same s))
+      -- a clause on the counts, which a sound record keeps
+      clause-fails : (clause : Record → Bool)
+          → (T (recordSound n k i b (recordOf n k i b)) → T (clause (readRecord (recordOf n k i b))))
+          → clause f ≡ false → false ≡ recordSound n k i b (recordOf n k i b)
+      clause-fails clause kept q = sym (no-T _ (λ t. subst T (ap clause (sym same) ∙ q) (kept t)))
 
       pub steps-fail : stepsKept n (f .steps) (recordValue f) ≡ false
           → false ≡ recordSound n k i b (recordOf n k i b)
       unfolding recordSound
-      steps-fail q =
-          sym (no-T _ (λ (t : T (recordSound n k i b (recordOf n k i b))). let kept : T (stepsKept n
-          (readRecord (recordOf n k i b) .steps) (station (recordOf n k i b))) = search (and-l, and-r) in
-          subst T (sym steps-are ∙ q) kept))
+      steps-fail = clause-fails (λ g. stepsKept n (g .steps) (recordValue g)) (λ t. search (and-l, and-r))
+
+      pub met-fail : metKept (f .met) (recordValue f) ≡ false → false ≡ recordSound n k i b (recordOf n k i b)
+      unfolding recordSound
+      met-fail = clause-fails (λ g. metKept (g .met) (recordValue g)) (λ t. search (and-l, and-r))
 
       pub record-form : (a : Bool) → fieldsSound n k (f .phase) (layRecord f) ≡ true
-          → stepsKept n (f .steps) (recordValue f) ≡ true
+          → metKept (f .met) (recordValue f) ≡ true → stepsKept n (f .steps) (recordValue f) ≡ true
           → a ≡ ownWritten n i b (recordValue f) && ownPassed i (recordValue f)
           → a ≡ recordSound n k i b (recordOf n k i b)
       unfolding recordSound
-      record-form a q m h =
-          h ∙ and-true _
-          ∙ (λ s. ownWritten n i b (recordValue (same s)) && ownPassed i (recordValue (same s))
-          && (sym m ∙ steps-are) s)
-          ∙ ap (λ (x : Bool). x && ownWritten n i b (station (recordOf n k i b))
-          && ownPassed i (station (recordOf n k i b))
-          && stepsKept n (readRecord (recordOf n k i b) .steps) (station (recordOf n k i b))) (sym (sym fields-is ∙ q))
+      record-form a q m c h =
+          h ∙ and-true _ ∙ and-true _
+          ∙ (λ s. ownWritten n i b (recordValue f) && ownPassed i (recordValue f) && sym c s && sym m s)
+          ∙ (λ s. let g = same s in (sym q ∙ fields-is) s && ownWritten n i b (recordValue g)
+          && ownPassed i (recordValue g) && stepsKept n (g .steps) (recordValue g) && metKept (g .met) (recordValue g))
 
 -- the next record
 pub record-next : (n k i at : ℕ) → at ≡ recordAt n k i → at + 24 ≡ recordAt n k (i + 1)

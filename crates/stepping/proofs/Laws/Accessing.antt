@@ -10,7 +10,8 @@ use Rattle.model.specs.Listing.{Turn, turnM, turnA, turnB, Register, Stage, wri
 use Rattle.model.specs.Listing.{Station, active, Array, move, placeArray, placeColumn}
 use Rattle.model.specs.Layout.{registerAt, recordAt, readRegister, layRegister, registerValue, layRecord, recordFields}
 use Rattle.model.specs.Layout.{recordValue, writingOf, readingOf, ofPhase, registerOf, recordOf, readRecord}
-use Rattle.model.specs.Layout.{putChanges, stepsIs, withSteps, boardLength}
+use Rattle.model.specs.Layout.{putChanges, stepsIs, withCounts, changed, boardLength}
+use Rattle.model.specs.Filled.{filledIn, metKeptAt, report}
 use Rattle.model.specs.Calls.{putRecord, putRegister, access}
 use Rattle.model.proofs.Board.Codec.{register}
 use Rattle.model.proofs.Basics.Tests.{clash}
@@ -24,10 +25,10 @@ use Rattle.model.proofs.Board.Changes.{put-back}
 use Rattle.model.proofs.Calls.StepsTaken.{record-steps}
 use Rattle.codec.specs.Parts.{stepsRead, phasePart, collectedPart, startedPart}
 use Rattle.archipelago.specs.declared.Moved.{Moved}
-use Rattle.archipelago.specs.Advanced.{Ready, Written, Advanced, Moves}
+use Rattle.archipelago.specs.Advanced.{Ready, Written, AdvancedOver, Moves}
 use Rattle.model.specs.declared.StepAnswer.{StepAnswer}
 use Rattle.model.specs.Told.{told}
-use Rattle.stepping.specs.Stepped.{Touches, moveOn, Accesses, OnSize, Stands}
+use Rattle.stepping.specs.Stepped.{Touches, registerOn, moveOn, totalOn, Accesses, OnSize, Stands}
 use Rattle.stepping.proofs.Laws.Ready.{put-written, put-nothing}
 use Rattle.stepping.proofs.Laws.Putting.{write-changes, read-changes, move-changes}
 
@@ -108,10 +109,10 @@ module _ (n K j : ℕ) (f : Record) (b : List ℕ) (place at : ℕ) (g : Fields.
     (t : Touches n j f place) (eg : g ≡ readRegister (part place 8 b)) (a : Moves n K f g m)
     (o : Stands n K j at f b) where
   moved : (s : Stage Figure) → recordValue f ≡ active (f .proposal) s
-      → Advanced f (move figures n K s (registerOf n (placeArray s) (placeColumn j s) b)) m
+      → AdvancedOver f s (registerOn n j s b) (moveOn n K j s b) m
   unfolding Moves Touches registerOf
   moved s e =
-      subst (λ (r : Register Figure). Advanced f (move figures n K s r) m)
+      subst (λ (r : Register Figure). AdvancedOver f s r (move figures n K s r) m)
       (ap registerValue eg ∙ ap (λ (k : ℕ). registerValue (readRegister (part k 8 b))) (t s e)) (a (f .proposal) s e)
 
   -- only a write writes, and it writes the station's own register
@@ -171,7 +172,7 @@ module _ (n K j : ℕ) (f : Record) (b : List ℕ) (place at : ℕ) (g : Fields.
       put-writing e d q ee
       (ed ∙ put-back at e (record-fits-after n K j f b e place at (m .register) h z t (o .place) ee) _ f _
       (beside (m .register) e ee)
-      (write-changes n K f _ m (here .stage) laid (moved (here .stage) (here .stands)) q))
+      (write-changes n K f _ m (here .stage) laid (rw (here .stands) at (h .met)) (moved (here .stage) (here .stands)) q))
 
   pub accessed-ending : (d : List ℕ) → m .writes ≡ false → d ≡ putChanges (startedPart (m .station)) at b
       → Accesses n K j f b (m .answer) d
@@ -200,28 +201,28 @@ module _ (n K j at : ℕ) (f : Record) (b : List ℕ) (h : Ready n K f) (z : OnS
     (read : f ≡ readRecord (part at 24 b)) where
   -- the access leaves the steps as they were
   pub steps-kept : f .steps ≤ 3264 → (r : StepAnswer) (d : List ℕ) → Accesses n K j f b r d → stepsRead at d ≡ f .steps
-  unfolding Accesses recordOf
+  unfolding Accesses recordOf changed
   steps-kept few r d a =
       let s = standing n K j f h (z .own) in
       let m = moveOn n K j (s .stage) b in
       let len = put-length n K b (z .len) (placeArray (s .stage)) (s .inside) j (z .own) (m .written) in
       (λ i. readRecord (part (place i) 24 (a (s .stage) (s .stands) .1 i)) .steps)
-      ∙ record-steps n K _ len j (z .own) (active (f .proposal) (m .stage)) f (omega arith)
+      ∙ record-steps n K _ len j (z .own) (active (f .proposal) (m .stage)) _ (omega arith)
 
   pub counted : f .steps ≤ 3264 → (r : StepAnswer) (d e : List ℕ) → Accesses n K j f b r d
       → e ≡ putChanges (stepsIs (stepsRead at d + 1) ∷ []) at d → (s : Standing n K j f)
       → (told r ≡ access n K j (f .proposal) (s .stage) b .answer)
       × (e ≡ access n K j (f .proposal) (s .stage) b .bytes)
-  unfolding Accesses access recordOf
+  unfolding Accesses access recordOf changed
   counted few r d e a q s =
       let m = moveOn n K j (s .stage) b in
       let p = a (s .stage) (s .stands) in
+      let same = read ∙ ap (λ (x : ℕ). readRecord (part x 24 b)) place in
       let put = putRegister n (placeArray (s .stage)) j (m .written) b in
       let len = put-length n K b (z .len) (placeArray (s .stage)) (s .inside) j (z .own) (m .written) in (
-        p .0,
+        p .0 ∙ ap (λ (g : Record). report (m .answer) (filledIn (registerOn n j (s .stage) b)) (totalOn n j g (s .stage) b)) same,
         q ∙ (λ i. putChanges (stepsIs (steps-kept few r d a i + 1) ∷ []) (place i) (p .1 i))
-            ∙ steps-over n K put len j (z .own) (active (f .proposal) (m .stage)) (f .steps + 1) f
+            ∙ steps-over n K put len j (z .own) (active (f .proposal) (m .stage)) (f .steps + 1) _
             ∙ ap (λ (g : Record). putRecord n K j (recordFields (active (f .proposal) (m .stage))
-            (withSteps (g .steps + 1) g)) put)
-            (read ∙ ap (λ (x : ℕ). readRecord (part x 24 b)) place),
+            (withCounts (g .steps + 1) (metKeptAt (m .stage) (totalOn n j g (s .stage) b)) g)) put) same,
       )

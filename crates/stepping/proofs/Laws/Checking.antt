@@ -5,7 +5,7 @@ use Rattle.model.specs.declared.Verdict.{Verdict}
 use Rattle.model.specs.declared.Verdict.the-variants.{Refused}
 use Rattle.model.specs.declared.StepAnswer.{StepAnswer}
 use Rattle.model.specs.declared.StepAnswer.the-variants as answers
-use Rattle.model.specs.Listing.{refused}
+use Rattle.model.specs.Filled.{refusal}
 use Rattle.model.specs.Calls.{Refusal, boardRefusal, unlessRefused, stepOn, step}
 use Rattle.model.specs.Told.{told, verdict}
 use Rattle.soundness.proofs.Laws.Checked.{turned}
@@ -16,14 +16,14 @@ pub step-turned : (i : ℕ) (b : List ℕ) (v : Verdict) (k : ℕ) → v ≡ Ref
 unfolding step unlessRefused told
 step-turned i b v k e h =
     let q = sym (turned b v k e h) in (
-      ap (λ (r : Refusal). unlessRefused r refused b (stepOn i b) .answer) q,
-      ap (λ (r : Refusal). unlessRefused r refused b (stepOn i b) .bytes) q,
+      ap (λ (r : Refusal). unlessRefused r refusal b (stepOn i b) .answer) q,
+      ap (λ (r : Refusal). unlessRefused r refusal b (stepOn i b) .bytes) q,
     )
 
 pub step-passed : (i : ℕ) (b : List ℕ) (r : StepAnswer) (d : List ℕ) → boardRefusal b none ≡ none → StepsOn i b r d
     → (told r ≡ step i b .answer) × (d ≡ step i b .bytes)
 unfolding step unlessRefused StepsOn
 step-passed i b r d e s = (
-  s .0 ∙ ap (λ (q : Refusal). unlessRefused q refused b (stepOn i b) .answer) (sym e),
-  s .1 ∙ ap (λ (q : Refusal). unlessRefused q refused b (stepOn i b) .bytes) (sym e),
+  s .0 ∙ ap (λ (q : Refusal). unlessRefused q refusal b (stepOn i b) .answer) (sym e),
+  s .1 ∙ ap (λ (q : Refusal). unlessRefused q refusal b (stepOn i b) .bytes) (sym e),
 )

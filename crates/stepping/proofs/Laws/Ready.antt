@@ -6,9 +6,9 @@ use Rattle.model.specs.declared.Register as Fields
 use Rattle.model.specs.Bytes.{byte, splice}
 use Rattle.model.specs.Figure.{Figure}
 use Rattle.model.specs.Listing.{Array, Register}
-use Rattle.model.specs.Layout.{readRecord, layRegister, registerAt}
+use Rattle.model.specs.Layout.{readRecord, recordValue, layRegister, registerAt}
 use Rattle.model.specs.Calls.{putRegister}
-use Rattle.model.specs.Sound.{fieldsSound}
+use Rattle.model.specs.Sound.{fieldsSound, mostMet}
 use Rattle.model.proofs.Basics.Tests.{clash}
 use Rattle.model.proofs.Board.Good.{position-fact, island-fact}
 use Rattle.model.proofs.Board.Canon.{fields-station}
@@ -16,15 +16,16 @@ use Rattle.archipelago.specs.declared.Moved.{Moved}
 use Rattle.archipelago.specs.Advanced.{Ready, Written}
 
 pub ready : (n K : ℕ) (r : List ℕ) → T (fieldsSound n K (byte r 0) r) → length r ≡ 24 → 1 ≤ byte r 0
-    → byte r 0 ≤ 6
+    → byte r 0 ≤ 6 → readRecord r .met ≤ mostMet (recordValue (readRecord r))
     → Ready n K (readRecord r)
 unfolding readRecord
-ready n K r t e l h = record {
+ready n K r t e l h m = record {
   whole = fields-station n K r e t;
   begun = l;
   going = h;
   position = position-fact n K _ r t;
   island = island-fact n K _ r t;
+  met = m;
 }
 
 module _ (n : ℕ) (a : Array) (j : ℕ) (b : List ℕ) (r : Moved) where

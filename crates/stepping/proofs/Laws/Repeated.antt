@@ -7,7 +7,9 @@ use lib.ListN.{replicate-append-replicate}
 use Rattle.model.specs.declared.StepAnswer.{StepAnswer}
 use Rattle.model.specs.declared.StepAnswer.the-variants.{Refused}
 use Rattle.model.specs.Bytes.{part}
+use Rattle.model.specs.Figure.{Figure}
 use Rattle.model.specs.Listing.{accepted, outcome}
+use Rattle.model.specs.Filled.{Report}
 use Rattle.model.specs.Layout.{boardLength, recordAt, readRecord}
 use Rattle.model.specs.Calls.{boardRefusal, stepOn}
 use Rattle.model.specs.Runs.{taken, answers, after}
@@ -51,9 +53,9 @@ ran-then b is d js e r q = record {
 pub ran-sound : (b is d : List ℕ) → Ran b is d → boardRefusal d none ≡ none
 ran-sound b is d r = r .sound
 
-not-accepted : (s : ℕ) (b : List ℕ) (k : ℕ) → StepsOn s b (Refused k) b → accepted (stepOn s b .answer) ≡ false
+not-accepted : (s : ℕ) (b : List ℕ) (k : ℕ) → StepsOn s b (Refused k) b → accepted (stepOn s b .answer .did) ≡ false
 unfolding StepsOn told accepted outcome
-not-accepted s b k one = ap accepted (sym (one .0))
+not-accepted s b k one = ap (λ (z : Report Figure). accepted (z .did)) (sym (one .0))
 
 -- ---- one step of the station with index j, whose record stands at `at`
 
@@ -187,8 +189,8 @@ module _ (b : List ℕ) (s n K j at i : ℕ) (d : List ℕ) (t : Repeats b s n K
     unfolding TakesOn
     steps-refused z count l =
         let whole : i + (count - i) ≡ count = omega arith in
-        let no : accepted (stepOn s d .answer) ≡ false =
-        ap (λ (k : ℕ). accepted (stepOn k d .answer)) (sym (t .number)) ∙ sym (one .0)
+        let no : accepted (stepOn s d .answer .did) ≡ false =
+        ap (λ (k : ℕ). accepted (stepOn k d .answer .did)) (sym (t .number)) ∙ sym (one .0)
         ∙ T-false r (subst T (sym z) tt) in
         bytes ∙ stepOn-refused s d no ∙ sym (refused-again s d no (count - i))
         ∙ ap (λ (x : List ℕ). after stepOn x (replicate (count - i) s)) (t .ran .bytes)

@@ -8,9 +8,11 @@ use Rattle.model.specs.declared.StepAnswer.{StepAnswer}
 use Rattle.model.specs.declared.StepAnswer.the-variants.{Refused}
 use Rattle.model.specs.Bytes.{byte, part}
 use Rattle.model.specs.Figure.{Figure}
-use Rattle.model.specs.Listing.{Station, idle, active, has-decided, is-spent, Answer, refused, accepted}
+use Rattle.model.specs.Listing.{Station, idle, active, has-decided, is-spent, accepted}
+use Rattle.model.specs.Filled.{Report, refusal}
 use Rattle.model.specs.Layout.{recordAt, readRecord, layRecord, ofPhase, recordValue, recordOf, putChanges, stepsIs}
-use Rattle.model.specs.Sound.{fieldsSound, recordSound}
+use Rattle.model.specs.Layout.{stationOf}
+use Rattle.model.specs.Sound.{fieldsSound, recordSound, mostMet}
 use Rattle.model.specs.Calls.{After, Refusal, stations, islands, boardRefusal, stationRefusal, stationAt, unlessRefused}
 use Rattle.model.specs.Calls.{notGoing, access, stepped, stepOn}
 use Rattle.model.specs.Told.{told}
@@ -19,6 +21,7 @@ use Rattle.model.proofs.Basics.Numbers.{Bytes}
 use Rattle.model.proofs.Basics.Splices.{length-part, byte-part}
 use Rattle.model.proofs.Basics.Parts.{part-Bytes}
 use Rattle.model.proofs.Board.Canon.{bytes-record}
+use Rattle.model.proofs.Board.Values.{sound-counts}
 use Rattle.model.proofs.Calls.Refusals.{board-of, OnBoard, station-passes}
 use Rattle.model.proofs.Calls.Accepted.{stepOn-access}
 use Rattle.model.proofs.Calls.StepsTaken.{steps-few}
@@ -45,9 +48,9 @@ turned-down : (i : ℕ) (b : List ℕ) (k : ℕ) → stationRefusal i b (notGoin
     → StepsOn i b (Refused k) b
 unfolding StepsOn stepOn unlessRefused told
 turned-down i b k e = (
-  ap (λ (r : Refusal). unlessRefused r refused b (stepped (stations b) (islands b) (i - 1) (stationAt i b) b) .answer)
+  ap (λ (r : Refusal). unlessRefused r refusal b (stepped (stations b) (islands b) (i - 1) (stationAt i b) b) .answer)
       (sym e),
-  ap (λ (r : Refusal). unlessRefused r refused b (stepped (stations b) (islands b) (i - 1) (stationAt i b) b) .bytes)
+  ap (λ (r : Refusal). unlessRefused r refusal b (stepped (stations b) (islands b) (i - 1) (stationAt i b) b) .bytes)
       (sym e),
 )
 
@@ -135,13 +138,20 @@ module _ (n K j at : ℕ) (b : List ℕ) (k : Known n K j at b) where
         (sym (k .on .place))
         (search (and-l, and-r))
 
+    -- its collect has met no more than it has read
+    met-low : readRecord (part at 24 b) .met ≤ mostMet (recordValue (readRecord (part at 24 b)))
+    unfolding stations islands recordOf stationOf
+    met-low =
+        subst (λ (x : ℕ). readRecord (part x 24 b) .met ≤ mostMet (recordValue (readRecord (part x 24 b))))
+        (sym (k .on .place)) (sound-counts _ _ b (board-of b none (k .sound) .0 .sound-board) j (k .on .own) .met)
+
     ready-now : Ready (getD b 0 0) (getD b 1 0) f
     unfolding readRecord
     ready-now =
         let q = phase-byte b at f e in
         subst (Ready (getD b 0 0) (getD b 1 0)) (sym e)
         (ready (getD b 0 0) (getD b 1 0) (part at 24 b) fields (length-part at 24 b (k .on .inside))
-        (omega (arith, q, ap (λ (g : Record). g .phase) e)) (omega (arith, q, ap (λ (g : Record). g .phase) e)))
+        (omega (arith, q, ap (λ (g : Record). g .phase) e)) (omega (arith, q, ap (λ (g : Record). g .phase) e)) met-low)
 
     pub going-ready : Ready n K f
     going-ready = as-read (λ n K. Ready n K f) ready-now
@@ -197,11 +207,11 @@ module _ (n K j at : ℕ) (b : List ℕ) (k : Known n K j at b) where
         let p = subst (λ (m : ℕ). (told r ≡ access (getD b 0 0) (getD b 1 0) m (f .proposal) (here .stage) b .answer)
         × (x ≡ access (getD b 0 0) (getD b 1 0) m (f .proposal) (here .stage) b .bytes)) (k .on .index)
         (counted _ _ j at f b ready-now size-now (k .on .place) e steps-low r d x s q here) in (
-          p .0 ∙ ap (λ (y : After (Answer Figure)). y .answer) (sym accesses),
-          p .1 ∙ ap (λ (y : After (Answer Figure)). y .bytes) (sym accesses),
+          p .0 ∙ ap (λ (y : After (Report Figure)). y .answer) (sym accesses),
+          p .1 ∙ ap (λ (y : After (Report Figure)). y .bytes) (sym accesses),
         )
 
-    pub is-taken : accepted (stepOn (j + 1) b .answer) ≡ true
+    pub is-taken : accepted (stepOn (j + 1) b .answer .did) ≡ true
     is-taken =
-        ap (λ (x : After (Answer Figure)). accepted (x .answer)) accesses
+        ap (λ (x : After (Report Figure)). accepted (x .answer .did)) accesses
         ∙ access-accepts (getD b 0 0) (getD b 1 0) (j + 1 - 1) (f .proposal) (here .stage) b (here .goes)

@@ -9,8 +9,8 @@ fn print(compare: &Compare) {
     let c = &compare.counts;
     println!("{} calls, {} of them standings; {} lines, {} words compared", c.calls, c.standings, c.lines, c.words);
     println!(
-        "steps compared: {} single, {} in runs; rounds: {}; pairs: {}",
-        c.single_steps, c.run_steps, c.rounds, c.pairs
+        "steps compared: {} single, {} in runs; rounds: {}; pairs: {}; totals counted once more: {}",
+        c.single_steps, c.run_steps, c.rounds, c.pairs, c.totals
     );
     let by: Vec<String> = (7..c.refusals.len()).map(|r| format!("{r}: {}", c.refusals[r])).collect();
     println!("accepted {}; refused 6: {}, {}", c.refusals[0], c.refusals[6], by.join(", "));

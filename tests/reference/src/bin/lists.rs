@@ -1,9 +1,11 @@
-//! lists PROGRAM COUNT SEED: demand 3 on made lists, by the calls of this package and by what the program prints.
+//! lists PROGRAM COUNT SEED: demand 3 on made lists, by the calls of this package and by what the program prints; and that
+//! each answer of those calls tells the filled registers that were met.
 //! With `-` for the program only the calls of this package are asked. A count of 0 goes on for ever. A fourth argument
-//! `three` adds every board that three stations can come to, some 1.4 million and half a minute.
+//! `three` adds every board that three stations can come to, some 1.5 million and half a minute.
 
+use reference::engine::Reference;
 use reference::halts::Halts;
-use reference::lists::{judge, order_for, play, sequential, Call, Deeds, List};
+use reference::lists::{judge, order_for, play, sequential, Call, Deeds, List, Played};
 use reference::made_lists::make;
 use reference::model::Standing;
 use reference::pairs;
@@ -19,6 +21,8 @@ struct Tally {
     undecided: u64,
     spent_beside: u64,
     calls: u64,
+    reads: u64,
+    totals: u64,
 }
 
 impl Tally {
@@ -38,11 +42,28 @@ impl Tally {
         self.passed += 1;
     }
 
+    /// What is wrong with a list beside its decisions: the answers tell other registers than were met, or a line is not its
+    /// single calls.
+    fn take_answers(&mut self, name: &str, played: &Played) {
+        self.reads += played.recount.reads;
+        self.totals += played.recount.totals;
+        match played.wrong() {
+            None => self.passed += 1,
+            Some(why) => {
+                self.failed += 1;
+                println!("{name}: {why}");
+            }
+        }
+    }
+
     fn print(&self, whose: &str) {
         println!(
             "{whose}: {} calls, {} lists with a decision, {} of them beside a spent station, {} without; {} failed",
             self.calls, self.decided, self.spent_beside, self.undecided, self.failed
         );
+        if self.totals > 0 {
+            println!("their {} reads and {} totals were counted once more", self.reads, self.totals);
+        }
     }
 }
 
@@ -165,9 +186,10 @@ fn by_program(tally: &mut Tally, program: &str, lists: &[(u64, List)]) {
 
 fn by_calls(tally: &mut Tally, seed: u64, list: &List) {
     tally.calls += list.calls.len() as u64;
-    let deeds = play(list);
-    let verdict = judge(list.n, list.k, &deeds, &mut Random::new(seed), &sequential);
-    tally.take(&format!("calls, seed {seed}"), &deeds, verdict);
+    let (played, name) = (play(&Reference, list), format!("calls, seed {seed}"));
+    let verdict = judge(list.n, list.k, &played.deeds, &mut Random::new(seed), &sequential);
+    tally.take(&name, &played.deeds, verdict);
+    tally.take_answers(&name, &played);
 }
 
 /// In every sequential run from a fresh board each station decides the first one's figure, decision or none.

@@ -133,7 +133,7 @@ impl Fault {
     pub fn sound(self, f: &Fields) -> bool {
         let own = |name: &&str| *name == "own_best" || *name == "own_registers" && self == Fault::OwnSizesAreOne;
         let held = |(who, r): (usize, &Record)| self.own_best(who, r) && self.own_register(f, who, r);
-        broken(f).iter().all(|name| own(&name)) && f.records.iter().enumerate().all(held)
+        broken(f).iter().all(own) && f.records.iter().enumerate().all(held)
     }
 
     /// Asked where the reference's own test of it does not count.
@@ -167,19 +167,20 @@ impl Fault {
         vec![top, lower].into_iter().take(1 + others as usize).collect()
     }
 
-    /// What the station reads is put to what it heard as the fault has it. Then the reference steps as if the register
-    /// were empty, which adds nothing.
+    /// What the station reads is put to what it heard as the fault has it, and counted. Then the reference steps as if the
+    /// register were empty, which adds nothing.
     pub fn step(self, world: &mut World, station: u8) -> Result<Answer, Refusal> {
         let who = world.place(station)?;
         let Some((at, island, next)) = reads(&world.stations[who]) else { return world.step(who) };
         let kept = *register(world, at, island, next);
         if let (Some(read), Some(collect)) = (kept, collect(&mut world.stations[who])) {
             collect.heard = self.heard(at, &collect.heard, read);
+            collect.met += 1;
         }
         *register(world, at, island, next) = None;
-        let answer = world.step(who);
+        let answer = world.step(who)?;
         *register(world, at, island, next) = kept;
-        answer
+        Ok(if answer == Answer::Read(false) { Answer::Read(kept.is_some()) } else { answer })
     }
 }
 

@@ -3,101 +3,25 @@
 mod fault;
 
 use fault::{all_faults, of_reading, Fault};
-use reference::bytes::{fields, length, values, Fields};
+use reference::bytes::{length, values, Fields};
 use reference::compare;
-use reference::engine::{packed_answer, Engine, Reference};
+use reference::engine::{packed_answer, Engine};
 use reference::figure::EDGES;
-use reference::halts::Halts;
-use reference::model::World;
+use reference::on_values::{Apart, By, OnValues};
+use reference::refusal::Refusal;
 use reference::sheet::{self, Form};
 use reference::{order_edges, sheets};
 
-/// Boards are tested and stations are stepped with the fault; the other calls are the reference's.
+/// Boards are tested and stations are stepped with the fault.
 struct Faulty(Fault);
 
-impl Faulty {
-    fn opened(&self, board: &[u8]) -> Result<World, u64> {
-        let refusal = Reference.check(&mut board.to_vec());
-        if (7..11).contains(&refusal) {
-            return Err(refusal as u64);
-        }
-        let f = Fields::of_bytes(board);
-        if self.0.sound(&f) {
-            Ok(values(&f))
-        } else {
-            Err(11)
-        }
+impl OnValues for Faulty {
+    fn opened(&self, f: Fields) -> Option<Apart> {
+        self.0.sound(&f).then(|| Apart { world: values(&f), aside: vec![] })
     }
 
-    fn stepped(&self, board: &mut [u8], station: u8) -> Result<u64, u64> {
-        let mut world = self.opened(board)?;
-        let answer = self.0.step(&mut world, station).map_err(|refusal| refusal.number() as u64)?;
-        board.copy_from_slice(&fields(&world).to_bytes());
-        Ok(packed_answer(answer))
-    }
-
-    /// How many steps were taken, and how many stations stand decided.
-    fn ran(&self, board: &mut [u8], stations: &[u8]) -> Result<(u64, u64), u64> {
-        let mut world = self.opened(board)?;
-        let taken = stations.iter().filter(|station| self.0.step(&mut world, **station).is_ok()).count();
-        board.copy_from_slice(&fields(&world).to_bytes());
-        Ok((taken as u64, world.decided() as u64))
-    }
-}
-
-impl Engine for Faulty {
-    fn lay(&self, board: &mut [u8], n: u8, k: u8) -> u8 {
-        Reference.lay(board, n, k)
-    }
-
-    fn propose(&self, board: &mut [u8], station: u8, figure: i32) -> u8 {
-        Reference.propose(board, station, figure)
-    }
-
-    fn propose_all(&self, board: &mut [u8], pairs: &mut [u64]) -> u8 {
-        Reference.propose_all(board, pairs)
-    }
-
-    fn check(&self, board: &mut [u8]) -> u8 {
-        self.opened(board).map_or_else(|refusal| refusal as u8, |_| 0)
-    }
-
-    fn step(&self, board: &mut [u8], station: u8) -> u64 {
-        self.stepped(board, station).unwrap_or_else(|refusal| refusal)
-    }
-
-    fn standing(&self, board: &mut [u8], station: u8) -> u64 {
-        Reference.standing(board, station)
-    }
-
-    fn run(&self, board: &mut [u8], stations: &mut [u8]) -> u64 {
-        if stations.len() > 65_536 {
-            return 6;
-        }
-        let passed = |taken| stations.len() as u64 - taken;
-        self.ran(board, stations).map_or_else(|refusal| refusal, |(taken, _)| taken << 8 | passed(taken) << 32)
-    }
-
-    fn rounds(&self, board: &mut [u8], most: u8, named: &mut [u8]) -> u64 {
-        let refusal = Reference.rounds(&mut board.to_vec(), most, named) & 0xFF;
-        if refusal != 0 {
-            return refusal;
-        }
-        let halts = Halts::of_bytes(most, named);
-        let ran = self.ran(board, &halts.single_steps(board[0]));
-        ran.map_or_else(|refusal| refusal, |(_, decided)| decided << 8 | (halts.rounds.len() as u64) << 16)
-    }
-
-    fn show(&self, board: &mut [u8], line: &mut [u8]) -> u32 {
-        Reference.show(board, line)
-    }
-
-    fn word(&self, line: &mut [u8]) -> u64 {
-        Reference.word(line)
-    }
-
-    fn play_line(&self, line: &mut [u8], laid: usize, memory: &mut [u8], printed: &mut [u8]) -> u64 {
-        Reference.play_line(line, laid, memory, printed)
+    fn stepped(&self, apart: &mut Apart, station: u8, _: By) -> Result<u64, Refusal> {
+        self.0.step(&mut apart.world, station).map(packed_answer)
     }
 }
 
@@ -118,15 +42,15 @@ fn pairs_find(fault: Fault) -> bool {
 fn played(fault: Fault, text: &[u8]) -> Vec<u8> {
     let (mut memory, mut laid, mut out) = (vec![0; length(16, 64)], 0, Vec::new());
     for line in sheet::lines(text) {
-        let steps = match sheet::read(line) {
-            Ok(Form::Steps(items)) if laid > 0 && sheet::expansion(&items) <= 65_536 => Some(sheet::expanded(&items)),
+        let ran = match sheet::read(line) {
+            Ok(Form::Steps(items)) if laid > 0 && sheet::expansion(&items) <= 65_536 => {
+                Some(Faulty(fault).run(&mut memory[..laid], &mut sheet::expanded(&items)))
+            }
             _ => None,
         };
-        let ran =
-            steps.and_then(|steps| Some((steps.len() as u64, Faulty(fault).ran(&mut memory[..laid], &steps).ok()?.0)));
         let (printed, after) = match ran {
-            Some((all, taken)) => (format!("(ran {taken} {})", all - taken), laid),
-            None => sheet::play_line(line, laid, &mut memory),
+            Some(ran) if ran & 0xFF == 0 => (format!("(ran {} {})", ran >> 8 & 0xFF_FFFF, ran >> 32), laid),
+            _ => sheet::play_line(line, laid, &mut memory),
         };
         laid = after;
         out.extend(printed.bytes().chain([b'\n']));

@@ -35,12 +35,8 @@ impl Faulty {
 }
 
 impl Engine for Faulty {
-    fn lay(&self, board: &mut [u8], n: u8, k: u8) -> u8 {
-        Reference.lay(board, n, k)
-    }
-
-    fn propose(&self, board: &mut [u8], station: u8, figure: i32) -> u8 {
-        Reference.propose(board, station, figure)
+    fn rest(&self) -> &dyn Engine {
+        &Reference
     }
 
     fn propose_all(&self, board: &mut [u8], pairs: &mut [u64]) -> u8 {
@@ -50,38 +46,6 @@ impl Engine for Faulty {
         };
         self.1.writes(pairs);
         answer.map_or_else(Refusal::number, |()| 0)
-    }
-
-    fn check(&self, board: &mut [u8]) -> u8 {
-        Reference.check(board)
-    }
-
-    fn step(&self, board: &mut [u8], station: u8) -> u64 {
-        Reference.step(board, station)
-    }
-
-    fn standing(&self, board: &mut [u8], station: u8) -> u64 {
-        Reference.standing(board, station)
-    }
-
-    fn run(&self, board: &mut [u8], stations: &mut [u8]) -> u64 {
-        Reference.run(board, stations)
-    }
-
-    fn rounds(&self, board: &mut [u8], most: u8, named: &mut [u8]) -> u64 {
-        Reference.rounds(board, most, named)
-    }
-
-    fn show(&self, board: &mut [u8], line: &mut [u8]) -> u32 {
-        Reference.show(board, line)
-    }
-
-    fn word(&self, line: &mut [u8]) -> u64 {
-        Reference.word(line)
-    }
-
-    fn play_line(&self, line: &mut [u8], laid: usize, memory: &mut [u8], printed: &mut [u8]) -> u64 {
-        Reference.play_line(line, laid, memory, printed)
     }
 }
 

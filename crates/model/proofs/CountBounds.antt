@@ -1,4 +1,4 @@
--- The table of bounds on a station's steps: each row by computing the refusal of its boards.
+-- The table of bounds on the counts: each row by computing the refusal of its boards.
 -- Relies on the definitions alone.
 use Rattle.model.proofs.Kit.{refl}
 use Rattle.model.specs.Bytes.{number, digits, part, splice, zeros, every, implies}
@@ -11,19 +11,19 @@ use Rattle.model.specs.Layout.{writingOf, readingOf, ofPhase, recordValu
 use Rattle.model.specs.Sound.{headSound, registerSound, arraySound, registersSound, collecting, phaseKnown}
 use Rattle.model.specs.Sound.{positionInside, islandInside, bestInside, flagKnown, restZero, idleZero}
 use Rattle.model.specs.Sound.{collectZero, bestIslandZero, bestZero, seenKnown, sameRegister, ownWritten, ownSeen}
-use Rattle.model.specs.Sound.{ownPassed, turnsBefore, presentPass, islandOf, mostSteps, stepsKept, fieldsSound}
-use Rattle.model.specs.Sound.{recordSound, sound}
+use Rattle.model.specs.Sound.{ownPassed, turnsBefore, presentPass, islandOf, mostSteps, stepsKept, mostMet}
+use Rattle.model.specs.Sound.{metKept, fieldsSound, recordSound, sound}
 use Rattle.model.specs.Calls.{unless, ranges, shapeRefusal, stations, islands, boardRefusal, putRecord}
 use Rattle.model.specs.Calls.{putRegister}
-use Rattle.model.specs.StepBounds.{StepBounds, row, rows, tested, hasWritten, counting, tailSet}
+use Rattle.model.specs.CountBounds.{CountBounds, row, rows, stepsTested, metTested, hasWritten, counting, restSet}
 
-pub step-bounds : StepBounds
-unfolding StepBounds rows row tested hasWritten counting tailSet number digits part splice zeros every implies figure
+pub count-bounds : CountBounds
+unfolding CountBounds rows row stepsTested metTested hasWritten counting restSet number digits part splice zeros every implies figure
     figureBytes sameFigure above figures array placeArray entry pairAbove flagOf flagNumber boardLength rowOf
     registerAt recordAt freshBoard readRegister layRegister registerFields registerValue seenNumber bestIsland
     bestFigure seenOf writePhase flagByte readRecord layRecord changed fields recordFields writingOf readingOf ofPhase
     recordValue registerOf recordOf headSound registerSound arraySound registersSound collecting phaseKnown
     positionInside islandInside bestInside flagKnown restZero idleZero collectZero bestIslandZero bestZero seenKnown
-    sameRegister ownWritten ownSeen ownPassed turnsBefore presentPass islandOf mostSteps stepsKept fieldsSound
+    sameRegister ownWritten ownSeen ownPassed turnsBefore presentPass islandOf mostSteps stepsKept mostMet metKept fieldsSound
     recordSound sound unless ranges shapeRefusal stations islands boardRefusal putRecord putRegister
-step-bounds = (refl, refl, refl)
+count-bounds = (refl, refl, refl)

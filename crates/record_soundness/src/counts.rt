@@ -1,11 +1,22 @@
-// A record's steps against the most that its phase, island and position allow.
+// A record's counts: its steps against the most that its phase, island and position allow, and the filled registers that its
+// collect has met against its position.
 // Relies on fields; records rely on it.
 ghost use mathlib.Core.Path.{_≡_};
 ghost use Prim.Native.Nat.{_≤_};
 ghost use Rattle.model.specs.Layout.{recordValue};
-ghost use Rattle.model.specs.Sound.{stepsKept};
+ghost use mathlib.Core.Bool.{true};
+ghost use Rattle.model.specs.Sound.{collectZero, metKept, stepsKept};
+ghost use Rattle.record_soundness.specs.Groups.{laid};
 use crate::fields::is_collecting;
 use model::Record;
+
+// One comparison is enough, since the position is 0 outside of a collect.
+pub fn met_sound(f: Record) -> bool
+    requires { ⌜ (f .phase ≤ 8) × (laid collectZero f ≡ true) ⌝ }
+    ensures { λ r. ⌜ r ≡ metKept (f .met) (recordValue f) ⌝ }
+{
+    f.met <= f.position
+}
 
 // A turn is a write and n reads. The turns behind a station are three for each island that it has passed and those of its
 // present pass; in a collect there are its write and the reads before its position besides. A count of 0 is within every

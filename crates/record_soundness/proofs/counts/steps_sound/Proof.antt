@@ -1,9 +1,9 @@
 -- `steps_sound`: the bound by phase and position; no sum wraps, since a board has at most 16 stations.
 use Rattle.model.proofs.Kit.{_≤_, needs, arith}
-use Rattle.record_soundness.proofs.Laws.Steps.{behind, begun, kept-none, kept-collecting, kept-between}
-use Rattle.record_soundness.proofs.Laws.Steps.{behind-small}
-use Rattle.record_soundness.proofs.steps.steps_sound.Statement.{statement}
-use Rattle.record_soundness.proofs.steps.steps_sound.Tie as tie
+use Rattle.record_soundness.proofs.Laws.Counts.{behind, begun, kept-none, kept-collecting, kept-between}
+use Rattle.record_soundness.proofs.Laws.Counts.{behind-small}
+use Rattle.record_soundness.proofs.counts.steps_sound.Statement.{statement}
+use Rattle.record_soundness.proofs.counts.steps_sound.Tie as tie
 
 small : (c : tie.Start) → behind (c .args .n) (c .args .f) (c .args .f .phase) ≤ 13056
 small c = behind-small _ (c .args .f) (search) (search) (search needs)

@@ -1,11 +1,15 @@
--- The steps of a record against the most that its phase allows: the turns behind it, and in a collect its write and
--- what it has read.
--- Relies on soundness's bound; the proof of `steps_sound` relies on it.
+-- The counts of a record against the most that its phase allows. Of steps: the turns behind it, and in a collect its
+-- write and what it has read. Of filled registers met: what it has read.
+-- Relies on soundness's bounds; the proofs of `steps_sound` and `met_sound` rely on it.
 use Rattle.model.proofs.Kit.{_≡_, refl, sym, ap, _∙_, Bool, true, false, cond, ℕ, zero, suc, _+_, _-_, _≤_, _/_, _*_}
-use Rattle.model.proofs.Kit.{_<_, leb, le-leb, mul-le-mul, ℕ-discrete, arith}
+use Rattle.model.proofs.Kit.{_<_, _&&_, leb, eqb, eqb→eq, T, le-leb, mul-le-mul, ℕ-discrete, arith}
 use Rattle.model.specs.declared.Record.{Record}
 use Rattle.model.specs.Layout.{writingOf, readingOf, ofPhase, recordValue, layRecord}
-use Rattle.model.specs.Sound.{collecting, turnsBefore, presentPass, islandOf, mostSteps, stepsKept}
+use Rattle.model.specs.Bytes.{part, zeros}
+use Rattle.model.specs.Sound.{collecting, collectZero, turnsBefore, presentPass, islandOf, mostSteps, stepsKept}
+use Rattle.model.specs.Sound.{mostMet, metKept}
+use Rattle.model.proofs.Basics.Tests.{and-l, true-T}
+use Rattle.record_soundness.specs.Groups.{laid}
 
 module _ (n : ℕ) (f : Record) where
   -- the steps of the turns behind a station
@@ -64,3 +68,31 @@ module _ (n : ℕ) (f : Record) where
   -- and what the code multiplies and adds is small
   pub behind-small : n ≤ 16 → f .phase ≤ 8 → f .island < 256 → behind (f .phase) ≤ 13056
   behind-small hn h c = mul-le-mul {n₂ = 768} {m₂ = 17} (omega arith) (omega arith)
+
+-- ---- what a collect has met
+
+module _ (f : Record) where
+  -- the bytes of a collect that is not under way are zero, its position first
+  abbrev Rests : Type 0
+  Rests = T (eqb (f .position) 0 && eqb (f .seen) 0 && zeros (part 16 4 (layRecord f)))
+
+  at-zero : Rests → 0 ≡ f .position
+  at-zero t = sym (eqb→eq (f .position) 0 (search and-l))
+
+  met-at : (k : ℕ) → k ≤ 8 → T (collectZero k (layRecord f)) → mostMet (ofPhase k f) ≡ f .position
+  unfolding collectZero collecting ofPhase writingOf readingOf mostMet layRecord
+  met-at zero h t = at-zero t
+  met-at (suc zero) h t = at-zero t
+  met-at (suc (suc zero)) h t = refl
+  met-at (suc (suc (suc zero))) h t = at-zero t
+  met-at (suc (suc (suc (suc zero)))) h t = refl
+  met-at (suc (suc (suc (suc (suc zero))))) h t = at-zero t
+  met-at (suc (suc (suc (suc (suc (suc zero)))))) h t = refl
+  met-at (suc (suc (suc (suc (suc (suc (suc zero))))))) h t = at-zero t
+  met-at (suc (suc (suc (suc (suc (suc (suc (suc zero)))))))) h t = at-zero t
+  met-at (suc (suc (suc (suc (suc (suc (suc (suc (suc k))))))))) h t = absurd (omega arith)
+
+  pub met-kept : f .phase ≤ 8 → laid collectZero f ≡ true
+      → leb (f .met) (f .position) ≡ metKept (f .met) (recordValue f)
+  unfolding metKept recordValue
+  met-kept h e = ap (leb (f .met)) (sym (met-at (f .phase) h (true-T _ e)))
