@@ -11,11 +11,11 @@ use Rattle.model.specs.Listing.{writing, reading, has-decided, is-spent, active
 use Rattle.model.specs.Layout.{seenNumber, bestIsland, bestFigure, seenOf, fields, recordFields, writePhase, flagByte}
 use Rattle.model.specs.Layout.{changed}
 use Rattle.model.specs.Listing.{flagNumber}
-use Rattle.model.specs.Filled.{metKeptAt, reported}
+use Rattle.model.specs.Filled.{reported}
 use Rattle.model.specs.Told.{told}
 use Rattle.archipelago.specs.declared.Moved.{Moved}
 use Rattle.collect.specs.Collected.{collected, noting, withSeen, Kept, endedSeen}
-use Rattle.archipelago.specs.Advanced.{Advanced, EndsBy, Finishes, Written, decision, meeting, staying}
+use Rattle.archipelago.specs.Advanced.{Advanced, Finishes, Written, decision, staying}
 
 -- ---- `ended`
 
@@ -41,9 +41,9 @@ ended-seen f kept h =
 
 -- ---- the listing's moves at the end of a collect that saw a, c and x being the station's own pair
 
--- a result that begins a phase, has met nothing in it and writes nothing
+-- a result that begins a phase and writes nothing
 unfoldable pub begins : (phase island flag : ℕ) → Record → Figure → StepAnswer → Moved
-begins phase island flag f y a = staying (fields phase 0 island nothing flag (f .proposal) y (meeting 0 f)) a
+begins phase island flag f y a = staying (fields phase 0 island nothing flag (f .proposal) y f) a
 
 module _ (K : ℕ) (f : Record) (c : ℕ) (x : Figure) where
   island-at : Seen Figure → ℕ
@@ -56,30 +56,29 @@ module _ (K : ℕ) (f : Record) (c : ℕ) (x : Figure) where
   number-at a = seenNumber (endedSeen c x a)
 
   end-m : (a : Seen Figure)
-      → EndsBy (ended K turnM c x a) f
-      (begins 3 (island-at a) 0 f (figure-at a) (Went (island-at a) (figure-at a) (f .met)))
-  unfolding EndsBy island-at figure-at endedSeen bestIsland bestFigure ended finish stay begins staying Written told
-      recordFields writePhase flagByte reported metKeptAt
-  end-m nothing here = record { station = refl; written = refl; answer = refl }
-  end-m (seen g k y) here = record { station = refl; written = refl; answer = refl }
+      → Advanced f (ended K turnM c x a) (begins 3 (island-at a) 0 f (figure-at a) (Went (island-at a) 0 (figure-at a)))
+  unfolding island-at figure-at endedSeen bestIsland bestFigure ended finish stay begins staying Written told reported
+      recordFields writePhase flagByte
+  end-m nothing = record { station = refl; written = refl; answer = refl }
+  end-m (seen g k y) = record { station = refl; written = refl; answer = refl }
 
   end-commit : (a : Seen Figure) → number-at a ≡ 1
-      → EndsBy (ended K turnA c x a) f (begins 5 c 2 f (figure-at a) (Marked 2 (figure-at a) (f .met)))
-  unfolding EndsBy figure-at number-at endedSeen seenNumber bestFigure ended finish stay begins staying Written told
-      recordFields writePhase flagByte flagNumber reported metKeptAt
+      → Advanced f (ended K turnA c x a) (begins 5 c 2 f (figure-at a) (Marked 2 0 (figure-at a)))
+  unfolding figure-at number-at endedSeen seenNumber bestFigure ended finish stay begins staying Written told reported
+      recordFields writePhase flagByte flagNumber
   end-commit nothing e = absurd (omega arith)
-  end-commit (seen first k y) e = λ here. record { station = refl; written = refl; answer = refl }
+  end-commit (seen first k y) e = record { station = refl; written = refl; answer = refl }
   end-commit (seen second k y) e = absurd (omega arith)
   end-commit (seen third k y) e = absurd (omega arith)
 
   end-adopt : (a : Seen Figure) → (number-at a ≡ 1 → ⊥)
-      → EndsBy (ended K turnA c x a) f (begins 5 c 1 f (figure-at a) (Marked 1 (figure-at a) (f .met)))
-  unfolding EndsBy figure-at number-at endedSeen seenNumber bestFigure ended finish stay begins staying Written told
-      recordFields writePhase flagByte flagNumber reported metKeptAt
-  end-adopt nothing e = λ here. record { station = refl; written = refl; answer = refl }
+      → Advanced f (ended K turnA c x a) (begins 5 c 1 f (figure-at a) (Marked 1 0 (figure-at a)))
+  unfolding figure-at number-at endedSeen seenNumber bestFigure ended finish stay begins staying Written told reported
+      recordFields writePhase flagByte flagNumber
+  end-adopt nothing e = record { station = refl; written = refl; answer = refl }
   end-adopt (seen first k y) e = absurd (e refl)
-  end-adopt (seen second k y) e = λ here. record { station = refl; written = refl; answer = refl }
-  end-adopt (seen third k y) e = λ here. record { station = refl; written = refl; answer = refl }
+  end-adopt (seen second k y) e = record { station = refl; written = refl; answer = refl }
+  end-adopt (seen third k y) e = record { station = refl; written = refl; answer = refl }
 
   end-decided : (e : Flag) (a : Seen Figure) → number-at a ≡ 2 → decision c (figure-at a) ≡ ended K (turnB e) c x a
   unfolding figure-at number-at endedSeen seenNumber bestFigure ended finish decision
@@ -99,36 +98,35 @@ module _ (K : ℕ) (f : Record) (c : ℕ) (x : Figure) where
 
 -- a figure y goes through the machine by its bits, whose number is w, into the record and into the answer
 begun : (phase island flag : ℕ) (f : Record) (y w : Figure) (answer : Figure → StepAnswer) (next : Record) (r : Moved)
-    → w ≡ y → next ≡ fields phase 0 island nothing flag (f .proposal) w (meeting 0 f) → r ≡ staying next (answer w)
+    → w ≡ y → next ≡ fields phase 0 island nothing flag (f .proposal) w f → r ≡ staying next (answer w)
     → r ≡ begins phase island flag f y (answer y)
 unfolding begins
 begun phase island flag f y w answer next r u p q =
     q ∙ (λ i. staying
-    ((p ∙ ap (λ (y : Figure). fields phase 0 island nothing flag (f .proposal) y (meeting 0 f)) u) i) (answer (u i)))
+    ((p ∙ ap (λ (y : Figure). fields phase 0 island nothing flag (f .proposal) y f) u) i) (answer (u i)))
 
 module _ (K : ℕ) (f : Record) (y w : Figure) (next : Record) (r : Moved) (u : w ≡ y) where
-  pub decision-made : next ≡ fields 7 0 (f .island) nothing 0 (f .proposal) w (meeting 0 f)
-      → r ≡ staying next (Decided (f .island) w (f .met)) → EndsBy (decision (f .island) y) f r
-  unfolding EndsBy decision stay begins staying Written told recordFields reported metKeptAt
-  decision-made p q here =
-      subst (Advanced f _ _ _) (sym (begun 7 (f .island) 0 f y w (λ v. Decided (f .island) v (f .met)) next r u p q))
+  pub decision-made : next ≡ fields 7 0 (f .island) nothing 0 (f .proposal) w f
+      → r ≡ staying next (Decided (f .island) 0 w) → Advanced f (decision (f .island) y) r
+  unfolding decision stay begins staying Written told reported recordFields
+  decision-made p q =
+      subst (Advanced f _) (sym (begun 7 (f .island) 0 f y w (Decided (f .island) 0) next r u p q))
       (record { station = refl; written = refl; answer = refl })
 
-  pub adopted : f .island + 1 < K → next ≡ fields 1 0 (f .island + 1) nothing 0 (f .proposal) w (meeting 0 f)
-      → r ≡ staying next (Adopted (f .island + 1) w (f .met)) → EndsBy (onward K (f .island) y) f r
-  unfolding EndsBy onward stay begins staying Written told recordFields writePhase flagByte reported metKeptAt
-  adopted h p q here =
+  pub adopted : f .island + 1 < K → next ≡ fields 1 0 (f .island + 1) nothing 0 (f .proposal) w f
+      → r ≡ staying next (Adopted (f .island + 1) 0 w) → Advanced f (onward K (f .island) y) r
+  unfolding onward stay begins staying Written told reported recordFields writePhase flagByte
+  adopted h p q =
       rw (lt-ltb (f .island + 1) K h)
-      (subst (Advanced f _ _ _)
-      (sym (begun 1 (f .island + 1) 0 f y w (λ v. Adopted (f .island + 1) v (f .met)) next r u p q))
+      (subst (Advanced f _) (sym (begun 1 (f .island + 1) 0 f y w (Adopted (f .island + 1) 0) next r u p q))
       (record { station = refl; written = refl; answer = refl }))
 
-  pub exhausted : K ≤ f .island + 1 → next ≡ fields 8 0 (f .island) nothing 0 (f .proposal) w (meeting 0 f)
-      → r ≡ staying next (Spent (f .island) w (f .met)) → EndsBy (onward K (f .island) y) f r
-  unfolding EndsBy onward stay begins staying Written told recordFields reported metKeptAt
-  exhausted h p q here =
+  pub exhausted : K ≤ f .island + 1 → next ≡ fields 8 0 (f .island) nothing 0 (f .proposal) w f
+      → r ≡ staying next (Spent (f .island) 0 w) → Advanced f (onward K (f .island) y) r
+  unfolding onward stay begins staying Written told reported recordFields
+  exhausted h p q =
       rw (le-ltb (f .island + 1) K h)
-      (subst (Advanced f _ _ _) (sym (begun 8 (f .island) 0 f y w (λ v. Spent (f .island) v (f .met)) next r u p q))
+      (subst (Advanced f _) (sym (begun 8 (f .island) 0 f y w (Spent (f .island) 0) next r u p q))
       (record { station = refl; written = refl; answer = refl }))
 
 -- the island stays that of the station
@@ -137,20 +135,20 @@ pub last-island : (K : ℕ) (f last : Record) → last ≡ withSeen f (endedSeen
 unfolding withSeen noting changed
 last-island K f last l h = subst (λ (g : Record). g .island < K) (sym l) h
 
--- what a collect has seen and met is none of what its end leaves
-seen-gone : (f : Record) (a : Seen Figure) (j k : ℕ) (v : Figure) (s : Stage Figure)
-    → recordFields (active v s) (meeting k (meeting j (withSeen f a))) ≡ recordFields (active v s) (meeting k f)
+-- what a collect has seen is none of what its end leaves
+seen-gone : (f : Record) (a : Seen Figure) (v : Figure) (s : Stage Figure)
+    → recordFields (active v s) (withSeen f a) ≡ recordFields (active v s) f
 unfolding withSeen noting changed recordFields fields
-seen-gone f a j k v (writing t c x) = refl
-seen-gone f a j k v (reading t c x p b) = refl
-seen-gone f a j k v (has-decided c x) = refl
-seen-gone f a j k v (is-spent c x) = refl
+seen-gone f a v (writing t c x) = refl
+seen-gone f a v (reading t c x p b) = refl
+seen-gone f a v (has-decided c x) = refl
+seen-gone f a v (is-spent c x) = refl
 
-pub over-seen : (f : Record) (a : Seen Figure) (j here total : ℕ) (m : Move Figure) (r : Moved)
-    → Advanced (meeting j (withSeen f a)) here total m r → Advanced f here total m r
+pub over-seen : (f : Record) (a : Seen Figure) (m : Move Figure) (r : Moved) → Advanced (withSeen f a) m r
+    → Advanced f m r
 unfolding withSeen noting changed
-over-seen f a j here total m r h = record {
-  station = h .station ∙ seen-gone f a j (metKeptAt (m .stage) total) (f .proposal) (m .stage);
+over-seen f a m r h = record {
+  station = h .station ∙ seen-gone f a (f .proposal) (m .stage);
   written = h .written;
   answer = h .answer;
 }
@@ -158,51 +156,51 @@ over-seen f a j here total m r h = record {
 module _ (K : ℕ) (f last : Record) (w : Figure) (r : Moved)
     (l : last ≡ withSeen f (endedSeen (f .island) (f .carried) (collected f)))
     (u : w ≡ last .best) where
-  pub went : (next : Record) → next ≡ fields 3 0 (last .highest) nothing 0 (last .proposal) w (meeting 0 last)
-      → r ≡ staying next (Went (last .highest) w (last .met)) → Finishes turnM K f r
+  pub went : (next : Record) → next ≡ fields 3 0 (last .highest) nothing 0 (last .proposal) w last
+      → r ≡ staying next (Went (last .highest) 0 w) → Finishes turnM K f r
   unfolding Finishes begins fields withSeen noting changed island-at figure-at
   went next p q =
-      subst (EndsBy _ _)
-      (sym (begun 3 (last .highest) 0 last (last .best) w (λ v. Went (last .highest) v (last .met)) next r u p q
-      ∙ ap (λ (g : Record). begins 3 (g .highest) 0 g (g .best) (Went (g .highest) (g .best) (g .met))) l))
+      subst (Advanced _ _)
+      (sym (begun 3 (last .highest) 0 last (last .best) w (Went (last .highest) 0) next r u p q
+      ∙ ap (λ (g : Record). begins 3 (g .highest) 0 g (g .best) (Went (g .highest) 0 (g .best))) l))
       (end-m K _ _ _ (collected f))
 
   pub committed : (t : Bool) (next : Record) → t ≡ eqb (last .seen) 1 → t ≡ true
-      → next ≡ fields 5 0 (last .island) nothing 2 (last .proposal) w (meeting 0 last)
-      → r ≡ staying next (Marked 2 w (last .met)) → Finishes turnA K f r
+      → next ≡ fields 5 0 (last .island) nothing 2 (last .proposal) w last → r ≡ staying next (Marked 2 0 w)
+      → Finishes turnA K f r
   unfolding Finishes begins fields withSeen noting changed figure-at number-at
   committed t next d e p q =
-      subst (EndsBy _ _)
-      (sym (begun 5 (last .island) 2 last (last .best) w (λ v. Marked 2 v (last .met)) next r u p q
-      ∙ ap (λ (g : Record). begins 5 (g .island) 2 g (g .best) (Marked 2 (g .best) (g .met))) l))
+      subst (Advanced _ _)
+      (sym (begun 5 (last .island) 2 last (last .best) w (Marked 2 0) next r u p q
+      ∙ ap (λ (g : Record). begins 5 (g .island) 2 g (g .best) (Marked 2 0 (g .best))) l))
       (end-commit K _ _ _ (collected f) (ap (λ (g : Record). g .seen) (sym l) ∙ eqb-true _ _ (sym d ∙ e)))
 
   pub not-committed : (t : Bool) (next : Record) → t ≡ eqb (last .seen) 1 → t ≡ false
-      → next ≡ fields 5 0 (last .island) nothing 1 (last .proposal) w (meeting 0 last)
-      → r ≡ staying next (Marked 1 w (last .met)) → Finishes turnA K f r
+      → next ≡ fields 5 0 (last .island) nothing 1 (last .proposal) w last → r ≡ staying next (Marked 1 0 w)
+      → Finishes turnA K f r
   unfolding Finishes begins fields withSeen noting changed figure-at number-at
   not-committed t next d e p q =
-      subst (EndsBy _ _)
-      (sym (begun 5 (last .island) 1 last (last .best) w (λ v. Marked 1 v (last .met)) next r u p q
-      ∙ ap (λ (g : Record). begins 5 (g .island) 1 g (g .best) (Marked 1 (g .best) (g .met))) l))
+      subst (Advanced _ _)
+      (sym (begun 5 (last .island) 1 last (last .best) w (Marked 1 0) next r u p q
+      ∙ ap (λ (g : Record). begins 5 (g .island) 1 g (g .best) (Marked 1 0 (g .best))) l))
       (end-adopt K _ _ _ (collected f) (λ s. eqb-false _ _ (sym d ∙ e) (ap (λ (g : Record). g .seen) l ∙ s)))
 
   -- the collect of B: both ways go on from the last record and its best figure
   of-last : (e : Flag) (m : ℕ → Figure → Move Figure)
       → m (f .island) (figure-at K f (f .island) (f .carried) (collected f))
       ≡ ended K (turnB e) (f .island) (f .carried) (collected f)
-      → EndsBy (m (last .island) w) last r → Finishes (turnB e) K f r
-  unfolding Finishes EndsBy withSeen noting changed figure-at
-  of-last e m p a here =
-      subst (λ (m : Move Figure). Advanced f here (f .met) m r) p
-      (over-seen f _ _ _ _ _ r (subst (λ (g : Record). Advanced g here (g .met) (m (g .island) (g .best)) r) l
-      (subst (λ (x : Figure). Advanced last here (last .met) (m (last .island) x) r) u (a here))))
+      → Advanced last (m (last .island) w) r → Finishes (turnB e) K f r
+  unfolding Finishes withSeen noting changed figure-at
+  of-last e m p a =
+      subst (λ (m : Move Figure). Advanced f m r) p
+      (over-seen f _ _ r (subst (λ (g : Record). Advanced g (m (g .island) (g .best)) r) l
+      (subst (λ (x : Figure). Advanced last (m (last .island) x) r) u a)))
 
-  pub settled : (e : Flag) → last .seen ≡ 2 → EndsBy (decision (last .island) w) last r → Finishes (turnB e) K f r
+  pub settled : (e : Flag) → last .seen ≡ 2 → Advanced last (decision (last .island) w) r → Finishes (turnB e) K f r
   unfolding Finishes withSeen noting changed number-at
   settled e n a = of-last e decision (end-decided K _ _ _ e (collected f) (ap (λ (g : Record). g .seen) (sym l) ∙ n)) a
 
-  pub went-on : (e : Flag) → (last .seen ≡ 2 → ⊥) → EndsBy (onward K (last .island) w) last r
+  pub went-on : (e : Flag) → (last .seen ≡ 2 → ⊥) → Advanced last (onward K (last .island) w) r
       → Finishes (turnB e) K f r
   unfolding Finishes withSeen noting changed number-at
   went-on e n a =

@@ -1,7 +1,7 @@
 -- What `advance` asks of a record and what its result says of the listing's move.
 -- Relies on the model's listing and layout; the contracts of `advance`, of the reads and of the ends rely on it.
 use mathlib.Core.Path.{_≡_}
-use mathlib.Core.Bool.{Bool, true, false}
+use mathlib.Core.Bool.{true, false}
 use mathlib.Core.List.{[], _∷_}
 use mathlib.Core.Option.{Option, none, some}
 use Prim.Native.Nat.{ℕ, _+_, _≤_, _<_}
@@ -12,10 +12,8 @@ use Rattle.model.specs.declared.StepAnswer.{StepAnswer}
 use Rattle.model.specs.declared.StepAnswer.the-variants.{Wrote, Read}
 use Rattle.model.specs.Figure.{Figure, figures}
 use Rattle.model.specs.Listing.{Turn, Stage, reading, has-decided, active, decided, stay, ended, Register, Move, move}
-use Rattle.model.specs.Filled.{filledIn, metWith, metKeptAt, report}
 use Rattle.model.specs.Layout.{recordFields, recordValue, registerFields, registerValue, changed, phaseIs, positionIs}
-use Rattle.model.specs.Layout.{metIs}
-use Rattle.model.specs.Sound.{mostMet}
+use Rattle.model.specs.Filled.{report}
 use Rattle.model.specs.Told.{told}
 use Rattle.archipelago.specs.declared.Moved.{Moved}
 use Rattle.collect.specs.Collected.{collected}
@@ -28,55 +26,39 @@ pub record Ready (n K : ℕ) (f : Record) : Type 0 where
   pub going : f .phase ≤ 6
   pub position : f .position < n
   pub island : f .island < K
-  pub met : f .met ≤ mostMet (recordValue f)
 
 -- the same for the collect of one turn
 pub record Reads (t : Turn) (n : ℕ) (f : Record) : Type 0 where
   pub whole : recordFields (active (f .proposal) (reading t (f .island) (f .carried) (f .position) (collected f))) f ≡ f
   pub position : f .position < n
-  pub met : f .met ≤ f .position
 
 -- what is written: nothing, or the fields of the register
 unfoldable pub Written : Option (Register Figure) → Moved → Type 0
 Written none r = r .writes ≡ false
 Written (some w) r = (r .writes ≡ true) × (r .register ≡ registerFields w)
 
--- the record f with k filled registers met
-abbrev pub meeting : (k : ℕ) → Record → Record
-meeting k f = changed (metIs k ∷ []) f
-
--- The result r is the move m of the station with the record f, which met `here` filled registers by its access and
--- `total` in its collect with it.
-pub record Advanced (f : Record) (here total : ℕ) (m : Move Figure) (r : Moved) : Type 0 where
-  pub station : r .station ≡ recordFields (active (f .proposal) (m .stage)) (meeting (metKeptAt (m .stage) total) f)
+-- The result r is the move m of the station with the record f. A move knows nothing of filled registers: it answers as
+-- if it had met none, and the step puts in what was met.
+pub record Advanced (f : Record) (m : Move Figure) (r : Moved) : Type 0 where
+  pub station : r .station ≡ recordFields (active (f .proposal) (m .stage)) f
   pub written : Written (m .written) r
-  pub answer : told (r .answer) ≡ report (m .answer) here total
-
--- The same by the stage s of the record f and the register g that it accesses.
-abbrev pub AdvancedOver : (f : Record) (s : Stage Figure) (g : Register Figure) (m : Move Figure) (r : Moved) → Type 0
-AdvancedOver f s g m r = Advanced f (filledIn g) (metWith s g (f .met)) m r
+  pub answer : told (r .answer) ≡ report (m .answer) 0 0
 
 -- What `advance` promises of its result r: it is the listing's move over the register g at the stage that the record f
 -- stands for.
 unfoldable pub Moves : (n K : ℕ) (f : Record) (g : Fields.Register) (r : Moved) → Type 0
 Moves n K f g r =
-    (v : Figure) (s : Stage Figure) → recordValue f ≡ active v s
-    → AdvancedOver f s (registerValue g) (move figures n K s (registerValue g)) r
+    (v : Figure) (s : Stage Figure) → recordValue f ≡ active v s → Advanced f (move figures n K s (registerValue g)) r
 
 -- The same for a record in the collect of turn t.
 unfoldable pub MovesReading : (t : Turn) (n K : ℕ) (f : Record) (g : Fields.Register) (r : Moved) → Type 0
 MovesReading t n K f g r =
-    let s = reading t (f .island) (f .carried) (f .position) (collected f) in
-    AdvancedOver f s (registerValue g) (move figures n K s (registerValue g)) r
+    Advanced f
+    (move figures n K (reading t (f .island) (f .carried) (f .position) (collected f)) (registerValue g)) r
 
--- A record that has read and counted its last register ends its collect by the move m. What that register was matters
--- no more.
-unfoldable pub EndsBy : (m : Move Figure) (f : Record) (r : Moved) → Type 0
-EndsBy m f r = (here : ℕ) → Advanced f here (f .met) m r
-
--- the end of the collect of turn t
+-- And for a record that has read its last register: the end of the collect of turn t.
 unfoldable pub Finishes : (t : Turn) (K : ℕ) (f : Record) (r : Moved) → Type 0
-Finishes t K f r = EndsBy (ended K t (f .island) (f .carried) (collected f)) f r
+Finishes t K f r = Advanced f (ended K t (f .island) (f .carried) (collected f)) r
 
 -- the listing's move where a collect of B saw commits of one figure only
 unfoldable pub decision : (c : ℕ) (x : Figure) → Move Figure
@@ -91,8 +73,8 @@ staying f a = record {
   answer = a;
 }
 
-unfoldable pub passing : Record → (filled : Bool) → Moved
-passing f filled = staying (changed (positionIs (f .position + 1) ∷ []) f) (Read filled)
+unfoldable pub passing : Record → Moved
+passing f = staying (changed (positionIs (f .position + 1) ∷ []) f) (Read false)
 
 unfoldable pub writing : Record → (mark island : ℕ) → Moved
 writing f mark island = record {

@@ -1,4 +1,5 @@
 // The end of a collect, for each of the three arrays: the next phase, or the decision, or the end of the islands.
+// Totals are left at 0: the step puts them in, which counts filled registers.
 // Relies on the crate's `Moved`; the reads rely on it.
 use crate::Moved;
 use model::Record;
@@ -18,7 +19,7 @@ ghost use Rattle.model.specs.Layout.{fields};
 ghost use Rattle.model.specs.Listing.{nothing, turnM, turnA, turnB, Flag};
 ghost use Rattle.model.specs.Listing as listing;
 ghost use Rattle.collect.specs.Collected.{Kept, collected, withSeen, endedSeen};
-ghost use Rattle.archipelago.specs.Advanced.{EndsBy, Finishes, decision, meeting, staying};
+ghost use Rattle.archipelago.specs.Advanced.{Advanced, Finishes, decision, staying};
 
 pub fn stay(station: Record, answer: StepAnswer) -> Moved
     ensures { λ r. ⌜ r ≡ staying station answer ⌝ }
@@ -35,9 +36,9 @@ pub fn stay(station: Record, answer: StepAnswer) -> Moved
     }
 }
 
-// A phase begins: at position 0, with nothing seen and nothing met.
+// A phase begins: at position 0, with nothing seen.
 fn start(station: Record, phase: u8, island: u8, flag: u8, carried: i32) -> Record
-    ensures { λ r. ⌜ r ≡ fields phase 0 island nothing flag (station .proposal) carried (meeting 0 station) ⌝ }
+    ensures { λ r. ⌜ r ≡ fields phase 0 island nothing flag (station .proposal) carried station ⌝ }
 {
     let mut next = station;
     next.phase = phase;
@@ -48,7 +49,6 @@ fn start(station: Record, phase: u8, island: u8, flag: u8, carried: i32) -> Reco
     next.flag = flag;
     next.carried = carried;
     next.best = 0;
-    next.met = 0;
     next
 }
 
@@ -77,8 +77,8 @@ pub fn finish_m(station: Record) -> Moved
         next,
         StepAnswer::Went {
             island: last.highest,
+            total: 0,
             figure: last.best,
-            total: last.met,
         },
     )
 }
@@ -101,8 +101,8 @@ pub fn finish_a(station: Record) -> Moved
             next,
             StepAnswer::Marked {
                 flag: COMMIT,
+                total: 0,
                 figure: last.best,
-                total: last.met,
             },
         );
     }
@@ -111,8 +111,8 @@ pub fn finish_a(station: Record) -> Moved
         next,
         StepAnswer::Marked {
             flag: ADOPT,
+            total: 0,
             figure: last.best,
-            total: last.met,
         },
     )
 }
@@ -130,7 +130,7 @@ pub fn finish_b(k: u8, station: Record) -> Moved
 }
 
 fn decided(station: Record, figure: i32) -> Moved
-    ensures { λ r. ⌜ EndsBy (decision (station .island) figure) station r ⌝ }
+    ensures { λ r. ⌜ Advanced station (decision (station .island) figure) r ⌝ }
 {
     let island = station.island;
     let next = start(station, DECIDED, island, 0, figure);
@@ -138,8 +138,8 @@ fn decided(station: Record, figure: i32) -> Moved
         next,
         StepAnswer::Decided {
             island,
+            total: 0,
             figure,
-            total: station.met,
         },
     )
 }
@@ -147,7 +147,7 @@ fn decided(station: Record, figure: i32) -> Moved
 // An adopt: on to the next island, or spent at the last one.
 fn onward(k: u8, station: Record, figure: i32) -> Moved
     requires { ⌜ station .island < k ⌝ }
-    ensures { λ r. ⌜ EndsBy (listing.onward k (station .island) figure) station r ⌝ }
+    ensures { λ r. ⌜ Advanced station (listing.onward k (station .island) figure) r ⌝ }
 {
     let island = station.island + 1;
     if island < k {
@@ -156,8 +156,8 @@ fn onward(k: u8, station: Record, figure: i32) -> Moved
             next,
             StepAnswer::Adopted {
                 island,
+                total: 0,
                 figure,
-                total: station.met,
             },
         );
     }
@@ -166,8 +166,8 @@ fn onward(k: u8, station: Record, figure: i32) -> Moved
         next,
         StepAnswer::Spent {
             island: station.island,
+            total: 0,
             figure,
-            total: station.met,
         },
     )
 }

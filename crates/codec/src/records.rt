@@ -7,8 +7,8 @@ ghost use Prim.Native.Nat.{_+_, _≤_, _<_};
 ghost use lib.ListN.{length};
 ghost use Rattle.model.specs.Bytes.{part, splice};
 ghost use Rattle.model.specs.Figure.{figureBytes};
-ghost use Rattle.model.specs.Layout.{readRecord, layRecord, putChanges, stepsIs};
-ghost use Rattle.codec.specs.Parts.{stepsRead, phasePart, collectedPart, startedPart};
+ghost use Rattle.model.specs.Layout.{readRecord, layRecord, putChanges, stepsIs, metIs};
+ghost use Rattle.codec.specs.Parts.{stepsRead, meeting, metRead, phasePart, collectedPart, startedPart};
 use crate::cells::put_cell;
 use figures::figure_at;
 use figures::figure_bytes;
@@ -16,9 +16,11 @@ use figures::pairs::pair_at;
 use figures::pairs::pair_bytes;
 use model::Record;
 
-pub fn record_at(s: &[u8], at: usize) -> Record
+// The record as a move takes it: what was met is left at 0. A move does not look at it, and a byte that is read here would be
+// held while the step goes on.
+pub fn station_at(s: &[u8], at: usize) -> Record
     requires { ⌜ at + 24 ≤ length (now s) ⌝ }
-    ensures { λ r. ⌜ r ≡ readRecord (part at 24 (now (s .entry))) ⌝ }
+    ensures { λ r. ⌜ r ≡ meeting 0 (readRecord (part at 24 (now (s .entry)))) ⌝ }
 {
     Record {
         phase: s[at],
@@ -31,8 +33,17 @@ pub fn record_at(s: &[u8], at: usize) -> Record
         carried: figure_at(s, at + 12),
         best: figure_at(s, at + 16),
         steps: pair_at(s, at + 20),
-        met: s[at + 6],
+        met: 0,
     }
+}
+
+pub fn record_at(s: &[u8], at: usize) -> Record
+    requires { ⌜ at + 24 ≤ length (now s) ⌝ }
+    ensures { λ r. ⌜ r ≡ readRecord (part at 24 (now (s .entry))) ⌝ }
+{
+    let mut r = station_at(s, at);
+    r.met = s[at + 6];
+    r
 }
 
 // Three cells of eight bytes, one after another.
@@ -89,7 +100,15 @@ pub fn count_step(board: &mut [u8], at: usize)
     board[at + 21] = k[1];
 }
 
-// Three parts of a record, each put where the rest of it stands already.
+// One more in what was met, in the same way. An empty register does not come here.
+pub fn count_met(board: &mut [u8], at: usize)
+    requires { ⌜ (at + 24 ≤ length (now board)) × (metRead at (now board) < 255) ⌝ }
+    ensures { λ _. ⌜ now (board .exit) ≡ putChanges (metIs (metRead at (now (board .entry)) + 1) ∷ []) at (now (board .entry)) ⌝ }
+{
+    board[at + 6] = board[at + 6] + 1;
+}
+
+// Three parts of a record, each put where the rest of it stands already. The end of a collect clears what it met.
 pub fn put_phase(board: &mut [u8], at: usize, r: Record)
     requires { ⌜ at + 24 ≤ length (now board) ⌝ }
     ensures { λ _. ⌜ now (board .exit) ≡ putChanges (phasePart r) at (now (board .entry)) ⌝ }
@@ -104,7 +123,6 @@ pub fn put_collected(board: &mut [u8], at: usize, r: Record)
     board[at + 1] = r.position;
     board[at + 3] = r.seen;
     board[at + 4] = r.highest;
-    board[at + 6] = r.met;
     put_figure(board, at + 16, r.best);
 }
 
@@ -115,6 +133,7 @@ pub fn put_started(board: &mut [u8], at: usize, r: Record)
     board[at] = r.phase;
     board[at + 2] = r.island;
     board[at + 5] = r.flag;
+    board[at + 6] = 0;
     put_figure(board, at + 12, r.carried);
     put_collected(board, at, r);
 }

@@ -24,15 +24,16 @@ use Rattle.model.specs.Standing.{Standing, stands-idle, stands-going, st
 use Rattle.model.specs.Standing.{StandingAnswer, stands, notTold}
 use Rattle.model.specs.Show.{Shown}
 
--- "It answers with its kind and fields"; a flag is "1 adopt or 2 commit"; 02: "the total as a last field"
+-- "It answers with its kind and fields"; a flag is "1 adopt or 2 commit". 02: a read "reports whether it met a filled
+-- one", the ends of a collect "carry the total as a last field"
 unfoldable pub told : StepAnswer → Report Figure
 told Wrote = record { did = wrote; met = 0 }
 told (Read filled) = record { did = read; met = cond filled 1 0 }
-told (Went c v k) = record { did = went c v; met = k }
-told (Marked f v k) = record { did = marked f v; met = k }
-told (Adopted c v k) = record { did = adopted c v; met = k }
-told (Decided c v k) = record { did = decided c v; met = k }
-told (Spent c v k) = record { did = spent c v; met = k }
+told (Went c k v) = record { did = went c v; met = k }
+told (Marked f k v) = record { did = marked f v; met = k }
+told (Adopted c k v) = record { did = adopted c v; met = k }
+told (Decided c k v) = record { did = decided c v; met = k }
+told (Spent c k v) = record { did = spent c v; met = k }
 told (Refused k) = refusal k
 
 -- "A refusal answers its number only"

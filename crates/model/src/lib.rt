@@ -26,17 +26,17 @@ pub struct Record {
     pub met: u8,
 }
 
-// What a step answers: "its kind and fields". A flag is 1 for adopt and 2 for commit, a total the number of filled registers
-// that the collect met.
+// What a step answers: "its kind and fields". A flag is 1 for adopt and 2 for commit; `filled` tells whether a read met a filled
+// register, and a total how many the collect met that ended. It stands beside the other byte, so that an answer has eight bytes.
 // specs/Told.antt gives the meaning of each case; contracts speak through it.
 pub enum StepAnswer {
     Wrote,
     Read { filled: bool },
-    Went { island: u8, figure: i32, total: u8 },
-    Marked { flag: u8, figure: i32, total: u8 },
-    Adopted { island: u8, figure: i32, total: u8 },
-    Decided { island: u8, figure: i32, total: u8 },
-    Spent { island: u8, figure: i32, total: u8 },
+    Went { island: u8, total: u8, figure: i32 },
+    Marked { flag: u8, total: u8, figure: i32 },
+    Adopted { island: u8, total: u8, figure: i32 },
+    Decided { island: u8, total: u8, figure: i32 },
+    Spent { island: u8, total: u8, figure: i32 },
     Refused { number: u8 },
 }
 

@@ -2,6 +2,7 @@
 pub mod Ready
 pub mod Touching
 pub mod Putting
+pub mod Met
 pub mod Accessing
 pub mod Stepping
 pub mod Checking

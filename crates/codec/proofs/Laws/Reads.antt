@@ -4,7 +4,9 @@ use Rattle.model.proofs.Kit.{_≡_, sym, ap, _∙_, List, ℕ, _+_, _≤_, _<_,
 use lib.Seq.{ext-getD}
 use Rattle.model.specs.Bytes.{byte, number, part}
 use Rattle.model.specs.Figure.{figure}
-use Rattle.model.specs.Layout.{readRegister, readRecord}
+use Rattle.model.specs.declared.Record.{Record}
+use Rattle.model.specs.Layout.{readRegister, readRecord, changed}
+use Rattle.codec.specs.Parts.{meeting}
 use Rattle.model.proofs.Basics.Splices.{length-part, byte-part}
 use Rattle.figures.proofs.Laws.Signs.{returned}
 
@@ -44,7 +46,7 @@ register-read b at v h e = λ i. record {
   figure = figure-in at 8 b h 4 v (omega arith) e i;
 }
 
-pub record-read : (b : List ℕ) (at : ℕ) (v x y : ℤ) (s : ℕ) → at + 24 ≤ length b → v ≡ figure (part (at + 8) 4 b)
+pub station-read : (b : List ℕ) (at : ℕ) (v x y : ℤ) (s : ℕ) → at + 24 ≤ length b → v ≡ figure (part (at + 8) 4 b)
     → x ≡ figure (part (at + 12) 4 b)
     → y ≡ figure (part (at + 16) 4 b) → s ≡ number (part (at + 20) 2 b)
     → record {
@@ -58,10 +60,10 @@ pub record-read : (b : List ℕ) (at : ℕ) (v x y : ℤ) (s : ℕ) → at + 24 
       carried = toZ w32 (ofZ w32 x);
       best = toZ w32 (ofZ w32 y);
       steps = s;
-      met = byte b (at + 6);
-    } ≡ readRecord (part at 24 b)
-unfolding readRecord
-record-read b at v x y s h ev ex ey es = λ i. record {
+      met = 0;
+    } ≡ meeting 0 (readRecord (part at 24 b))
+unfolding readRecord changed
+station-read b at v x y s h ev ex ey es = λ i. record {
   phase = first-byte at 24 b (lit< tt) i;
   position = byte-at at 24 b 1 (lit< tt) i;
   island = byte-at at 24 b 2 (lit< tt) i;
@@ -72,5 +74,10 @@ record-read b at v x y s h ev ex ey es = λ i. record {
   carried = figure-in at 24 b h 12 x (omega arith) ex i;
   best = figure-in at 24 b h 16 y (omega arith) ey i;
   steps = (es ∙ ap number (part-part at 24 20 2 b h (omega arith))) i;
-  met = byte-at at 24 b 6 (lit< tt) i;
+  met = 0;
 }
+
+pub record-read : (b : List ℕ) (at : ℕ) (f : Record) → f ≡ meeting 0 (readRecord (part at 24 b))
+    → meeting (byte b (at + 6)) f ≡ readRecord (part at 24 b)
+unfolding readRecord changed
+record-read b at f e = λ i. meeting (byte-at at 24 b 6 (lit< tt) i) (e i)

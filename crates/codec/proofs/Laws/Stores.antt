@@ -6,10 +6,10 @@ use lib.Seq.{sets-eq}
 use Rattle.model.specs.declared.Record.{Record}
 use Rattle.model.specs.Bytes.{byte, number, part, splice, digits}
 use Rattle.model.specs.Figure.{Figure, figureBytes}
-use Rattle.model.specs.Layout.{readRecord, putChanges, stepsIs}
+use Rattle.model.specs.Layout.{readRecord, putChanges, stepsIs, metIs}
 use Rattle.model.proofs.Basics.Splices.{splice-set}
-use Rattle.codec.specs.Parts.{stepsRead, phasePart, collectedPart, startedPart}
-use Rattle.codec.proofs.Laws.Reads.{part-part}
+use Rattle.codec.specs.Parts.{stepsRead, metRead, phasePart, collectedPart, startedPart}
+use Rattle.codec.proofs.Laws.Reads.{part-part, byte-at}
 
 pub figure-put : (v : Figure) (at : ℕ) (b f : List ℕ) → at + 4 ≤ length b → f ≡ figureBytes v
     → set (set (set (set b at (byte f 0)) (at + 1) (byte f 1)) (at + 2) (byte f 2)) (at + 3) (byte f 3)
@@ -49,6 +49,21 @@ module _ (at : ℕ) (b : List ℕ) (h : at + 24 ≤ length b) (x : ℕ) (e : x �
       next : at + 21 ≡ suc (at + 20)
       next = omega arith
 
+-- what was met as it is read, and one more of it put
+module _ (at : ℕ) (b : List ℕ) (h : at + 24 ≤ length b) where
+  pub met-read : byte b (at + 6) ≡ metRead at b
+  unfolding readRecord
+  met-read = byte-at at 24 b 6 (lit< tt)
+
+  pub met-fits : metRead at b < 255 → byte b (at + 6) + 1 < 256
+  met-fits l = omega (arith, met-read)
+
+  pub met-put : set b (at + 6) (byte b (at + 6) + 1) ≡ putChanges (metIs (metRead at b + 1) ∷ []) at b
+  unfolding putChanges
+  met-put =
+      splice-set (at + 6) (byte b (at + 6) + 1) b (omega arith)
+      ∙ ap (λ (k : ℕ). splice (at + 6) ((k + 1) ∷ []) b) met-read
+
 -- the bytes p are d after some stores, which leave their length n; and one store more
 record After (n : ℕ) (p d : List ℕ) : Type 0 where
   long : length p ≡ n
@@ -71,22 +86,21 @@ module _ (r : Record) (at : ℕ) (b : List ℕ) (h : at + 24 ≤ length b) where
 
   pub collected-put : (y : Figure) (d : List ℕ) → y ≡ r .best
       → d ≡ splice (at + 16) (figureBytes y)
-      (set (set (set (set b (at + 1) (r .position)) (at + 3) (r .seen)) (at + 4) (r .highest)) (at + 6) (r .met))
+      (set (set (set b (at + 1) (r .position)) (at + 3) (r .seen)) (at + 4) (r .highest))
       → d ≡ putChanges (collectedPart r) at b
   unfolding putChanges collectedPart
   collected-put y d e q =
       let start : After (length b) b b = record { long = refl; is = refl } in
-      let seen = then 4 (r .highest) (lit< tt) (then 3 (r .seen) (lit< tt) (then 1 (r .position) (lit< tt) start)) in
-      let stores = then 6 (r .met) (lit< tt) seen in
+      let stores = then 4 (r .highest) (lit< tt) (then 3 (r .seen) (lit< tt) (then 1 (r .position) (lit< tt) start)) in
       q ∙ (λ k. splice (at + 16) (figureBytes (e k)) (stores .is k))
 
   pub started-put : (x : Figure) (c d : List ℕ) → x ≡ r .carried
       → c ≡ splice (at + 12) (figureBytes x)
-      (set (set (set b at (r .phase)) (at + 2) (r .island)) (at + 5) (r .flag))
+      (set (set (set (set b at (r .phase)) (at + 2) (r .island)) (at + 5) (r .flag)) (at + 6) 0)
       → d ≡ putChanges (collectedPart r) at c → d ≡ putChanges (startedPart r) at b
   unfolding putChanges startedPart
   started-put x c d e ec ed =
       let start : After (length b) (set b at (r .phase)) (splice (at + 0) (r .phase ∷ []) b) =
       record { long = simp length-set; is = first-put } in
-      let stores = then 5 (r .flag) (lit< tt) (then 2 (r .island) (lit< tt) start) in
+      let stores = then 6 0 (lit< tt) (then 5 (r .flag) (lit< tt) (then 2 (r .island) (lit< tt) start)) in
       ed ∙ ap (putChanges (collectedPart r) at) (ec ∙ (λ k. splice (at + 12) (figureBytes (e k)) (stores .is k)))

@@ -6,7 +6,7 @@ use Rattle.model.specs.declared.Record.{Record}
 use Rattle.model.specs.Bytes.{byte, part, splice}
 use Rattle.model.specs.Figure.{Figure}
 use Rattle.model.specs.Listing.{Register, Array, Station}
-use Rattle.model.specs.Layout.{boardLength, registerAt, recordAt, layRecord, recordFields, recordOf, stepsIs}
+use Rattle.model.specs.Layout.{boardLength, registerAt, recordAt, layRecord, recordFields, recordOf, stepsIs, metIs}
 use Rattle.model.specs.Layout.{changed, putChanges}
 use Rattle.model.specs.Calls.{putRecord, putRegister}
 use Rattle.model.proofs.Basics.Splices.{length-splice, byte-before, part-same, part-before, part-after}
@@ -14,7 +14,7 @@ use Rattle.model.proofs.Basics.Splices.{splice-apart}
 use Rattle.model.proofs.Board.Places.{InBoard, head-first, register-inside, record-inside, register-fits}
 use Rattle.model.proofs.Board.Places.{head-before-records, records-apart, registers-apart}
 use Rattle.model.proofs.Board.Changes.{all-put}
-use Rattle.model.proofs.Board.Codec.{registerBytes, length-register, length-record, steps-beside}
+use Rattle.model.proofs.Board.Codec.{registerBytes, length-register, length-record, counts-beside, counts-stay}
 
 -- the register of array a and station index j, as bytes
 unfoldable pub registerPart : (n : ℕ) → Array → (j : ℕ) → List ℕ → List ℕ
@@ -81,10 +81,11 @@ pub steps-over : (n K : ℕ) (b : List ℕ) → length b ≡ boardLength n K →
     → (s : Station Figure) (k : ℕ) (f : Record)
     → putChanges (stepsIs k ∷ []) (recordAt n K i) (putRecord n K i (recordFields s f) b)
     ≡ putRecord n K i (recordFields s (changed (stepsIs k ∷ []) f)) b
-unfolding putRecord
+unfolding putRecord changed
 steps-over n K b len i own s k f =
     all-put (recordAt n K i) b (omega (arith, record-inside n K i own)) (stepsIs k ∷ []) (recordFields s f)
-    ∙ ap (λ (g : Record). splice (recordAt n K i) (layRecord g) b) (steps-beside s k f)
+    ∙ ap (λ (g : Record). splice (recordAt n K i) (layRecord g) b)
+    ((λ j. changed (stepsIs k ∷ metIs (counts-stay s f .1 j) ∷ []) (recordFields s f)) ∙ counts-beside s k (f .met) f)
 
 module _ (n K : ℕ) (b : List ℕ) (len : length b ≡ boardLength n K) (a : Array) (inside : InBoard K a) (i : ℕ)
     (own : i < n) (r : Register Figure) where

@@ -11,7 +11,7 @@ use Rattle.model.specs.Listing.{idle, active, flagOf, flagNumber}
 use Rattle.model.specs.Layout.{layRegister, readRegister, registerFields, registerValue, seenNumber, bestIsland}
 use Rattle.model.specs.Layout.{bestFigure, seenOf, writePhase, flagByte, changed, proposalIs, carriedIs, bestIs}
 use Rattle.model.specs.Layout.{layRecord, readRecord, fields, recordFields, recordValue, writingOf, readingOf}
-use Rattle.model.specs.Layout.{ofPhase, stepsIs}
+use Rattle.model.specs.Layout.{ofPhase, withCounts}
 use Rattle.model.proofs.Basics.Numbers.{digits-below, figure-fits, figure-bytes}
 
 -- a register and a station's record as bytes, the record having been f, and back
@@ -114,14 +114,30 @@ counts-stay (active v (reading t c x p a)) f = (refl, refl)
 counts-stay (active v (has-decided c x)) f = (refl, refl)
 counts-stay (active v (is-spent c x)) f = (refl, refl)
 
-pub steps-beside : (s : Station Figure) (k : ℕ) (f : Record)
-    → changed (stepsIs k ∷ []) (recordFields s f) ≡ recordFields s (changed (stepsIs k ∷ []) f)
+pub counts-beside : (s : Station Figure) (k m : ℕ) (f : Record)
+    → withCounts k m (recordFields s f) ≡ recordFields s (withCounts k m f)
 unfolding recordFields fields changed
-steps-beside idle k f = refl
-steps-beside (active v (writing t c x)) k f = refl
-steps-beside (active v (reading t c x p a)) k f = refl
-steps-beside (active v (has-decided c x)) k f = refl
-steps-beside (active v (is-spent c x)) k f = refl
+counts-beside idle k m f = refl
+counts-beside (active v (writing t c x)) k m f = refl
+counts-beside (active v (reading t c x p a)) k m f = refl
+counts-beside (active v (has-decided c x)) k m f = refl
+counts-beside (active v (is-spent c x)) k m f = refl
+
+-- nor do the counts tell how it stands
+pub value-beside : (k m : ℕ) (f : Record) → recordValue (withCounts k m f) ≡ recordValue f
+unfolding recordValue ofPhase writingOf readingOf changed
+value-beside k m f = by-phase (f .phase)
+  where
+    by-phase : (p : ℕ) → ofPhase p (withCounts k m f) ≡ ofPhase p f
+    by-phase zero = refl
+    by-phase (suc zero) = refl
+    by-phase (suc (suc zero)) = refl
+    by-phase (suc (suc (suc zero))) = refl
+    by-phase (suc (suc (suc (suc zero)))) = refl
+    by-phase (suc (suc (suc (suc (suc zero))))) = refl
+    by-phase (suc (suc (suc (suc (suc (suc zero)))))) = refl
+    by-phase (suc (suc (suc (suc (suc (suc (suc zero))))))) = refl
+    by-phase (suc (suc (suc (suc (suc (suc (suc (suc p)))))))) = refl
 
 -- ---- and its fields survive their bytes
 

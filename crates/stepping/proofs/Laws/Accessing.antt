@@ -10,27 +10,31 @@ use Rattle.model.specs.Listing.{Turn, turnM, turnA, turnB, Register, Stage, wri
 use Rattle.model.specs.Listing.{Station, active, Array, move, placeArray, placeColumn}
 use Rattle.model.specs.Layout.{registerAt, recordAt, readRegister, layRegister, registerValue, layRecord, recordFields}
 use Rattle.model.specs.Layout.{recordValue, writingOf, readingOf, ofPhase, registerOf, recordOf, readRecord}
-use Rattle.model.specs.Layout.{putChanges, stepsIs, withCounts, changed, boardLength}
+use Rattle.model.specs.Layout.{Change, putChanges, stepsIs, metIs, withCounts, changed, boardLength}
+use Rattle.model.specs.Sound.{mostMet}
 use Rattle.model.specs.Filled.{filledIn, metKeptAt, report}
 use Rattle.model.specs.Calls.{putRecord, putRegister, access}
-use Rattle.model.proofs.Board.Codec.{register}
+use Rattle.model.proofs.Board.Codec.{length-record}
 use Rattle.model.proofs.Basics.Tests.{clash}
-use Rattle.model.proofs.Basics.Splices.{length-splice, part-after}
+use Rattle.model.proofs.Basics.Splices.{length-splice, part-same, part-after}
 use Rattle.model.proofs.Board.Places.{InBoard, register-inside, register-fits, record-inside}
 use Rattle.model.proofs.Board.Values.{array-inside}
 use Rattle.model.proofs.Listing.Going.{Going}
 use Rattle.model.proofs.Listing.Written.{read-writes}
 use Rattle.model.proofs.Board.Boards.{register-length, steps-over}
-use Rattle.model.proofs.Board.Changes.{put-back}
+use Rattle.model.proofs.Board.Changes.{all-put, put-back}
 use Rattle.model.proofs.Calls.StepsTaken.{record-steps}
-use Rattle.codec.specs.Parts.{stepsRead, phasePart, collectedPart, startedPart}
+use Rattle.codec.specs.Parts.{meeting, stepsRead, metRead, phasePart, collectedPart, startedPart}
 use Rattle.archipelago.specs.declared.Moved.{Moved}
-use Rattle.archipelago.specs.Advanced.{Ready, Written, AdvancedOver, Moves}
+use Rattle.archipelago.specs.Advanced.{Ready, Written, Advanced, Moves}
 use Rattle.model.specs.declared.StepAnswer.{StepAnswer}
+use Rattle.model.specs.declared.StepAnswer.the-variants.{Wrote, Read}
 use Rattle.model.specs.Told.{told}
-use Rattle.stepping.specs.Stepped.{Touches, registerOn, moveOn, totalOn, Accesses, OnSize, Stands}
+use Rattle.stepping.specs.Stepped.{Touches, registerOn, moveOn, totalOn, recordOn, Accesses}
+use Rattle.stepping.specs.Stepped.{OnSize, Stands}
 use Rattle.stepping.proofs.Laws.Ready.{put-written, put-nothing}
 use Rattle.stepping.proofs.Laws.Putting.{write-changes, read-changes, move-changes}
+use Rattle.stepping.proofs.Laws.Met.{TellsAt, LeavesAt, empty-met, filled-met, write-met, end-met, collect-met}
 
 -- the stage that a ready record stands for, and its place on the board
 pub record Standing (n K j : ℕ) (f : Record) : Type 0 where
@@ -108,17 +112,24 @@ module _ (n K j : ℕ) (f : Record) (b : List ℕ) (place at : ℕ) (g : Fields.
     (z : OnSize n K j b)
     (t : Touches n j f place) (eg : g ≡ readRegister (part place 8 b)) (a : Moves n K f g m)
     (o : Stands n K j at f b) where
-  moved : (s : Stage Figure) → recordValue f ≡ active (f .proposal) s
-      → AdvancedOver f s (registerOn n j s b) (moveOn n K j s b) m
-  unfolding Moves Touches registerOf
-  moved s e =
-      subst (λ (r : Register Figure). AdvancedOver f s r (move figures n K s r) m)
-      (ap registerValue eg ∙ ap (λ (k : ℕ). registerValue (readRegister (part k 8 b))) (t s e)) (a (f .proposal) s e)
+  here : Standing n K j f
+  here = standing n K j f h (z .own)
+
+  -- the register that the code read there, and what the move over it gave
+  read-here : registerValue g ≡ registerOn n j (here .stage) b
+  unfolding Touches registerOf
+  read-here =
+      ap registerValue eg
+      ∙ ap (λ (k : ℕ). registerValue (readRegister (part k 8 b))) (t (here .stage) (here .stands))
+
+  moved : Advanced f (moveOn n K j (here .stage) b) m
+  unfolding Moves
+  moved =
+      subst (λ (r : Register Figure). Advanced f (move figures n K (here .stage) r) m) read-here
+      (a (f .proposal) (here .stage) (here .stands))
 
   -- only a write writes, and it writes the station's own register
-  own-column : (s : Stage Figure)
-      → Written (move figures n K s (registerOf n (placeArray s) (placeColumn j s) b) .written) m → m .writes ≡ true
-      → placeColumn j s ≡ j
+  own-column : (s : Stage Figure) → Written (moveOn n K j s b .written) m → m .writes ≡ true → placeColumn j s ≡ j
   unfolding placeColumn Written
   own-column (writing u c x) w q = refl
   own-column (reading u c x p e) w q =
@@ -126,36 +137,37 @@ module _ (n K j : ℕ) (f : Record) (b : List ℕ) (place at : ℕ) (g : Fields.
   own-column (has-decided c x) w q = refl
   own-column (is-spent c x) w q = refl
 
-  -- the whole record put back, after a write and after a read
-  put-writing : (e d : List ℕ) → m .writes ≡ true → e ≡ splice place (layRegister (m .register)) b
-      → d ≡ splice at (layRecord (m .station)) e
-      → Accesses n K j f b (m .answer) d
-  unfolding Accesses Touches putRecord
-  put-writing e d q ee ed s es =
-      let v = moved s es in
-      let col = own-column s (v .written) q in
-      let put = ee ∙ ap (λ (k : ℕ). splice k (layRegister (m .register)) b)
-      (t s es ∙ ap (registerAt n (placeArray s)) col)
-      ∙ sym (put-written n (placeArray s) j b m _ (v .written) q) in
-      (v .answer, ed ∙ (λ i. splice (o .place i) (layRecord (v .station i)) (put i)))
+  -- what is to be shown of an answer r and the record q that is put back, the register standing in the bytes e
+  abbrev Told : StepAnswer → Type 0
+  Told r = TellsAt f (registerOn n j (here .stage) b) (metRead at b) n K m (here .stage) r
 
-  put-reading : (d : List ℕ) → m .writes ≡ false → d ≡ splice at (layRecord (m .station)) b
-      → Accesses n K j f b (m .answer) d
-  unfolding Accesses Touches putRecord
-  put-reading d q ed s es =
-      let v = moved s es in
-      let put = sym (put-nothing n (placeArray s) j b m _ (v .written) q) in
-      (v .answer, ed ∙ (λ i. splice (o .place i) (layRecord (v .station i)) (put i)))
+  abbrev Left : Record → Type 0
+  Left q = LeavesAt f (registerOn n j (here .stage) b) (metRead at b) n K m (here .stage) q
 
-  here : Standing n K j f
-  here = standing n K j f h (z .own)
+  accessed : (r : StepAnswer) (q : Record) (e d : List ℕ) → Told r × Left q
+      → e ≡ putRegister n (placeArray (here .stage)) j (moveOn n K j (here .stage) b .written) b
+      → d ≡ splice at (layRecord q) e → Accesses n K j at f b r d
+  unfolding Accesses putRecord
+  accessed r q e d is put ed s es =
+      let same : here .stage ≡ s = let stands = here .stands in cc in
+      subst (λ (s : Stage Figure). (told r ≡ report (moveOn n K j s b .answer) (filledIn (registerOn n j s b))
+      (totalOn n j at s b)) × (d ≡ putRecord n K j (recordOn n K j at f s b)
+      (putRegister n (placeArray s) j (moveOn n K j s b .written) b))) same
+      (is .0, ed ∙ (λ i. splice (o .place i) (layRecord (is .1 i)) (put i)))
 
   -- the record by the fields of its stage
   laid : f ≡ recordFields (active (f .proposal) (here .stage)) f
   laid = sym (h .whole) ∙ ap (λ (s : Station Figure). recordFields s f) (here .stands)
 
+  -- fields other than what was met, changed in the record that stands there
+  over : (cs : List Change) (q : Record) → changed cs f ≡ q
+      → meeting (metRead at b) (changed cs f) ≡ changed cs (meeting (metRead at b) f)
+      → changed cs (meeting (metRead at b) f) ≡ meeting (metRead at b) q
+  over cs q e c = sym c ∙ ap (meeting (metRead at b)) e
+
   -- a register stands before the records, so a write to it leaves the record
-  beside : (r : Fields.Register) (e : List ℕ) → e ≡ splice place (layRegister r) b → part at 24 e ≡ layRecord f
+  beside : (r : Fields.Register) (e : List ℕ) → e ≡ splice place (layRegister r) b
+      → part at 24 e ≡ layRecord (meeting (metRead at b) f)
   unfolding Touches layRegister figureBytes digits
   beside r e q =
       let before = register-inside n K (placeArray (here .stage)) (placeColumn j (here .stage)) j (here .inside)
@@ -167,27 +179,100 @@ module _ (n K j : ℕ) (f : Record) (b : List ℕ) (place at : ℕ) (g : Fields.
 
   -- only the part that changed put back: over the rest, which stands there, it makes the whole record
   pub accessed-writing : (e d : List ℕ) → m .writes ≡ true → e ≡ splice place (layRegister (m .register)) b
-      → d ≡ putChanges (phasePart (m .station)) at e → Accesses n K j f b (m .answer) d
+      → d ≡ putChanges (phasePart (m .station)) at e → Accesses n K j at f b Wrote d
+  unfolding Touches phasePart changed
   accessed-writing e d q ee ed =
-      put-writing e d q ee
-      (ed ∙ put-back at e (record-fits-after n K j f b e place at (m .register) h z t (o .place) ee) _ f _
-      (beside (m .register) e ee)
-      (write-changes n K f _ m (here .stage) laid (rw (here .stands) at (h .met)) (moved (here .stage) (here .stands)) q))
+      let s = here .stage in
+      let put = ee ∙ ap (λ (k : ℕ). splice k (layRegister (m .register)) b)
+      (t s (here .stands) ∙ ap (registerAt n (placeArray s)) (own-column s (moved .written) q))
+      ∙ sym (put-written n (placeArray s) j b m _ (moved .written) q) in
+      accessed Wrote (meeting (metRead at b) (m .station)) e d
+      (write-met f _ _ n K m s (here .goes) (rw (here .stands) at (o .met)) moved q) put
+      (ed ∙ put-back at e (record-fits-after n K j f b e place at (m .register) h z t (o .place) ee) _ _ _
+      (beside (m .register) e ee) (over (phasePart (m .station)) _ (write-changes n K f _ m s laid moved q) refl))
 
-  pub accessed-ending : (d : List ℕ) → m .writes ≡ false → d ≡ putChanges (startedPart (m .station)) at b
-      → Accesses n K j f b (m .answer) d
-  accessed-ending d q ed =
-      put-reading d q
-      (ed ∙ put-back at b (record-fits n K j b at z (o .place)) _ f _ (o .laid)
-      (move-changes n K f _ m (here .stage) (moved (here .stage) (here .stands))))
+  -- ---- reads, and what the collect has met by them
 
-  pub accessed-collecting : (d : List ℕ) → m .writes ≡ false → (m .station .position ≡ 0 → ⊥)
-      → d ≡ putChanges (collectedPart (m .station)) at b
-      → Accesses n K j f b (m .answer) d
-  accessed-collecting d q l ed =
-      put-reading d q
-      (ed ∙ put-back at b (record-fits n K j b at z (o .place)) _ f _ (o .laid)
-      (read-changes n K f _ m (here .stage) laid (moved (here .stage) (here .stands)) q l))
+  met-few : metRead at b ≤ 15
+  unfolding mostMet placeColumn
+  met-few = by-stage (here .stage) (rw (here .stands) at (o .met)) (here .column)
+    where
+      by-stage : (s : Stage Figure) → metRead at b ≤ mostMet (active (f .proposal) s) → placeColumn j s < n
+          → metRead at b ≤ 15
+      by-stage (writing u c x) k l = omega arith
+      by-stage (reading u c x p e) k l = omega (arith, z .stations)
+      by-stage (has-decided c x) k l = omega arith
+      by-stage (is-spent c x) k l = omega arith
+
+  pub total-room : metRead at b < 255
+  total-room = omega (arith, met-few)
+
+  module _ (q : m .writes ≡ false) where
+    unwritten : b ≡ putRegister n (placeArray (here .stage)) j (moveOn n K j (here .stage) b .written) b
+    unwritten = sym (put-nothing n (placeArray (here .stage)) j b m _ (moved .written) q)
+
+    pub accessed-ending : m .station .position ≡ 0 → (k : ℕ) → k ≡ metRead at b + filledIn (registerValue g)
+        → (r : StepAnswer) → told r ≡ report (told (m .answer) .did) (told (m .answer) .met) k
+        → (d : List ℕ) → d ≡ putChanges (startedPart (m .station)) at b → Accesses n K j at f b r d
+    unfolding startedPart collectedPart changed
+    accessed-ending rests k sum r e d ed =
+        let total = sum ∙ ap (λ (x : Register Figure). metRead at b + filledIn x) read-here in
+        accessed r (meeting 0 (m .station)) b d
+        (end-met f _ _ n K m q r k e total rests (here .stage) (here .goes) moved) unwritten
+        (ed ∙ put-back at b (record-fits n K j b at z (o .place)) _ _ _ (o .laid)
+        (move-changes n K f _ m (here .stage) moved))
+
+    -- the record after what a read in the middle of a collect has seen was put back
+    module _ (l : m .station .position ≡ 0 → ⊥) (c : List ℕ) (ec : c ≡ putChanges (collectedPart (m .station)) at b) where
+      seen : Record
+      seen = meeting (metRead at b) (m .station)
+
+      seen-put : c ≡ splice at (layRecord seen) b
+      unfolding seen collectedPart changed
+      seen-put =
+          ec ∙ put-back at b (record-fits n K j b at z (o .place)) _ _ _ (o .laid)
+          (over (collectedPart (m .station)) _ (read-changes n K f _ m (here .stage) laid moved q l) refl)
+
+      pub accessed-empty : g .mark ≡ 0 → Accesses n K j at f b (Read false) c
+      unfolding seen
+      accessed-empty e =
+          let none = sym (empty-met g e) ∙ ap filledIn read-here in
+          accessed (Read false) seen b c
+          (collect-met f _ _ n K m q l false (metRead at b) none (omega arith) (here .stage) (here .goes) moved)
+          unwritten seen-put
+
+      count-inside : at + length (layRecord seen) ≤ length b
+      count-inside = omega (arith, length-record seen, record-fits n K j b at z (o .place))
+
+      pub count-fits : at + 24 ≤ length c
+      count-fits =
+          omega (
+            arith,
+            record-fits n K j b at z (o .place),
+            ap length seen-put ∙ length-splice at (layRecord seen) b count-inside,
+          )
+
+      met-there : metRead at c ≡ metRead at b
+      unfolding seen readRecord layRecord changed
+      met-there =
+          ap (metRead at) seen-put
+          ∙ ap (λ (k : ℕ). readRecord (part at k (splice at (layRecord seen) b)) .met) (sym (length-record seen))
+          ∙ ap (λ (r : List ℕ). readRecord r .met) (part-same at (layRecord seen) b count-inside)
+
+      pub count-room : metRead at c < 255
+      count-room = omega (arith, met-there, met-few)
+
+      pub accessed-filled : (g .mark ≡ 0 → ⊥) → (d : List ℕ) → d ≡ putChanges (metIs (metRead at c + 1) ∷ []) at c
+          → Accesses n K j at f b (Read true) d
+      unfolding seen changed
+      accessed-filled ne d ed =
+          let one = sym (filled-met g ne) ∙ ap filledIn read-here in
+          accessed (Read true) (meeting (metRead at c + 1) seen) b d
+          (collect-met f _ _ n K m q l true (metRead at c + 1) one (omega (arith, met-there)) (here .stage)
+          (here .goes) moved)
+          unwritten
+          (ed ∙ ap (putChanges (metIs (metRead at c + 1) ∷ []) at) seen-put
+          ∙ all-put at b (record-fits n K j b at z (o .place)) (metIs (metRead at c + 1) ∷ []) seen)
 
 -- ---- one more in the steps, which makes the access the model's step
 
@@ -198,9 +283,9 @@ put-length n K b len a inside j own none = len
 put-length n K b len a inside j own (some r) = register-length n K b len a inside j own r
 
 module _ (n K j at : ℕ) (f : Record) (b : List ℕ) (h : Ready n K f) (z : OnSize n K j b) (place : at ≡ recordAt n K j)
-    (read : f ≡ readRecord (part at 24 b)) where
+    (read : f ≡ meeting 0 (readRecord (part at 24 b))) where
   -- the access leaves the steps as they were
-  pub steps-kept : f .steps ≤ 3264 → (r : StepAnswer) (d : List ℕ) → Accesses n K j f b r d → stepsRead at d ≡ f .steps
+  pub steps-kept : f .steps ≤ 3264 → (r : StepAnswer) (d : List ℕ) → Accesses n K j at f b r d → stepsRead at d ≡ f .steps
   unfolding Accesses recordOf changed
   steps-kept few r d a =
       let s = standing n K j f h (z .own) in
@@ -209,7 +294,7 @@ module _ (n K j at : ℕ) (f : Record) (b : List ℕ) (h : Ready n K f) (z : OnS
       (λ i. readRecord (part (place i) 24 (a (s .stage) (s .stands) .1 i)) .steps)
       ∙ record-steps n K _ len j (z .own) (active (f .proposal) (m .stage)) _ (omega arith)
 
-  pub counted : f .steps ≤ 3264 → (r : StepAnswer) (d e : List ℕ) → Accesses n K j f b r d
+  pub counted : f .steps ≤ 3264 → (r : StepAnswer) (d e : List ℕ) → Accesses n K j at f b r d
       → e ≡ putChanges (stepsIs (stepsRead at d + 1) ∷ []) at d → (s : Standing n K j f)
       → (told r ≡ access n K j (f .proposal) (s .stage) b .answer)
       × (e ≡ access n K j (f .proposal) (s .stage) b .bytes)
@@ -217,12 +302,15 @@ module _ (n K j at : ℕ) (f : Record) (b : List ℕ) (h : Ready n K f) (z : OnS
   counted few r d e a q s =
       let m = moveOn n K j (s .stage) b in
       let p = a (s .stage) (s .stands) in
-      let same = read ∙ ap (λ (x : ℕ). readRecord (part x 24 b)) place in
+      let met : ℕ → ℕ = λ x. totalOn n j x (s .stage) b in
       let put = putRegister n (placeArray (s .stage)) j (m .written) b in
       let len = put-length n K b (z .len) (placeArray (s .stage)) (s .inside) j (z .own) (m .written) in (
-        p .0 ∙ ap (λ (g : Record). report (m .answer) (filledIn (registerOn n j (s .stage) b)) (totalOn n j g (s .stage) b)) same,
+        p .0 ∙ ap (λ (x : ℕ). report (m .answer) (filledIn (registerOn n j (s .stage) b)) (met x)) place,
         q ∙ (λ i. putChanges (stepsIs (steps-kept few r d a i + 1) ∷ []) (place i) (p .1 i))
             ∙ steps-over n K put len j (z .own) (active (f .proposal) (m .stage)) (f .steps + 1) _
             ∙ ap (λ (g : Record). putRecord n K j (recordFields (active (f .proposal) (m .stage))
-            (withCounts (g .steps + 1) (metKeptAt (m .stage) (totalOn n j g (s .stage) b)) g)) put) same,
+            (withCounts (g .steps + 1) (metKeptAt (m .stage) (met at)) g)) put) read
+            ∙ ap (λ (x : ℕ). let g = readRecord (part x 24 b) in
+            putRecord n K j (recordFields (active (f .proposal) (m .stage))
+            (withCounts (g .steps + 1) (metKeptAt (m .stage) (met x)) g)) put) place,
       )

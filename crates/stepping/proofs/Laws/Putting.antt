@@ -1,28 +1,26 @@
 -- What a move changes in a station's record: a write the phase alone, a read in the middle of a collect what it has
 -- seen, and no move the proposal. Relies on the listing's move and on the codec's parts of a record; the law of an
 -- accepted step relies on it, which puts back only what changed.
-use Rattle.model.proofs.Kit.{_≡_, refl, sym, ap, subst, _∙_, true, false, List, Option, ℕ, _+_, _≤_, ltb, arith}
+use Rattle.model.proofs.Kit.{_≡_, refl, sym, ap, subst, _∙_, true, false, List, Option, ℕ, _+_, ltb}
 use Rattle.model.specs.declared.Record.{Record}
 use Rattle.model.specs.Figure.{Figure, figures}
 use Rattle.model.specs.Listing.{Turn, Register, Seen, Stage, writing, reading, has-decided, is-spent, active}
 use Rattle.model.specs.Listing.{Move, stay, ended, see, move}
-use Rattle.model.specs.Filled.{metWith, metKeptAt}
 use Rattle.model.specs.Layout.{fields, recordFields, Change, changed}
-use Rattle.model.specs.Sound.{mostMet}
 use Rattle.model.proofs.Basics.Tests.{clash, cond-case}
 use Rattle.model.proofs.Listing.Cases.{ended-case}
 use Rattle.model.proofs.Listing.Written.{read-writes}
-use Rattle.codec.specs.Parts.{phasePart, collectedPart, startedPart}
+use Rattle.codec.specs.Parts.{meeting, phasePart, collectedPart, startedPart}
 use Rattle.archipelago.specs.declared.Moved.{Moved}
-use Rattle.archipelago.specs.Advanced.{Written, AdvancedOver, meeting}
+use Rattle.archipelago.specs.Advanced.{Written, Advanced}
 
 -- ---- a collect that has ended leaves the station at position 0
 
-module _ (K : ℕ) (v : Figure) where
-  abbrev Rests : Move Figure → Type 0
-  Rests m = (g : Record) → recordFields (active v (m .stage)) g .position ≡ 0
+module _ (K : ℕ) (v : Figure) (f : Record) where
+  abbrev pub Rests : Move Figure → Type 0
+  Rests m = recordFields (active v (m .stage)) f .position ≡ 0
 
-  ended-rests : (t : Turn) (c : ℕ) (x : Figure) (a : Seen Figure) → Rests (ended K t c x a)
+  pub ended-rests : (t : Turn) (c : ℕ) (x : Figure) (a : Seen Figure) → Rests (ended K t c x a)
   unfolding stay recordFields fields changed
   ended-rests t c x a = ended-case K Rests c t x a (search)
 
@@ -38,43 +36,40 @@ module _ (n K : ℕ) (f : Record) (g : Register Figure) (m : Moved) where
       → changed (part (m .station)) f ≡ m .station
   over part p q ep eq h = (λ i. changed (part (eq i)) (ep i)) ∙ h ∙ sym eq
 
-  -- before a write nothing has been met, so that the count stands as it was
-  pub write-changes : (s : Stage Figure) → Of s → f .met ≤ mostMet (active (f .proposal) s)
-      → AdvancedOver f s g (move figures n K s g) m → m .writes ≡ true → changed (phasePart (m .station)) f ≡ m .station
-  unfolding move stay Written recordFields fields changed phasePart mostMet metWith metKeptAt
-  write-changes (writing t c x) e k a w =
-      let none : f .met ≡ 0 = omega arith in
-      over phasePart _ _ (e ∙ (λ i. recordFields (active (f .proposal) (writing t c x)) (meeting (none i) f)))
-      (a .station) refl
-  write-changes (reading t c x p r) e k a w =
+  pub write-changes : (s : Stage Figure) → Of s → Advanced f (move figures n K s g) m → m .writes ≡ true
+      → changed (phasePart (m .station)) f ≡ m .station
+  unfolding move stay Written recordFields fields changed phasePart
+  write-changes (writing t c x) e a w = over phasePart _ _ e (a .station) refl
+  write-changes (reading t c x p r) e a w =
       clash (sym w
       ∙ subst (λ (o : Option (Register Figure)). Written o m) (read-writes K figures n t c x p r g) (a .written))
-  write-changes (has-decided c x) e k a w = clash (sym w ∙ a .written)
-  write-changes (is-spent c x) e k a w = clash (sym w ∙ a .written)
+  write-changes (has-decided c x) e a w = clash (sym w ∙ a .written)
+  write-changes (is-spent c x) e a w = clash (sym w ∙ a .written)
 
-  pub read-changes : (s : Stage Figure) → Of s → AdvancedOver f s g (move figures n K s g) m → m .writes ≡ false
+  pub read-changes : (s : Stage Figure) → Of s → Advanced f (move figures n K s g) m → m .writes ≡ false
       → (m .station .position ≡ 0 → ⊥) → changed (collectedPart (m .station)) f ≡ m .station
   unfolding move stay Written recordFields fields changed collectedPart
   read-changes (writing t c x) e a w l = clash (sym (a .written .0) ∙ w)
   read-changes (reading t c x p r) e a w l =
-      cond-case (λ (z : Move Figure). AdvancedOver f (reading t c x p r) g z m
-      → changed (collectedPart (m .station)) f ≡ m .station)
+      cond-case (λ (z : Move Figure). Advanced f z m → changed (collectedPart (m .station)) f ≡ m .station)
       (ltb (p + 1) n) _ _
       (λ b o. over collectedPart _ _ e (o .station) refl)
       (λ b o. absurd (l (ap (λ (z : Record). z .position) (o .station)
-      ∙ ended-rests K (f .proposal) t c x (see figures t r g) _))) a
+      ∙ ended-rests K (f .proposal) f t c x (see figures t r g)))) a
   read-changes (has-decided c x) e a w l = over collectedPart _ _ e (a .station) refl
   read-changes (is-spent c x) e a w l = over collectedPart _ _ e (a .station) refl
 
-  started : (s : Stage Figure) (k : ℕ)
-      → changed (startedPart (recordFields (active (f .proposal) s) (meeting k f))) f
-      ≡ recordFields (active (f .proposal) s) (meeting k f)
+  -- the end of a collect puts back all but the proposal and the steps, and clears what was met
+  started : (s : Stage Figure)
+      → changed (startedPart (recordFields (active (f .proposal) s) f)) f
+      ≡ meeting 0 (recordFields (active (f .proposal) s) f)
   unfolding recordFields fields changed startedPart collectedPart
-  started (writing t c x) k = refl
-  started (reading t c x p r) k = refl
-  started (has-decided c x) k = refl
-  started (is-spent c x) k = refl
+  started (writing t c x) = refl
+  started (reading t c x p r) = refl
+  started (has-decided c x) = refl
+  started (is-spent c x) = refl
 
-  pub move-changes : (s : Stage Figure) → AdvancedOver f s g (move figures n K s g) m
-      → changed (startedPart (m .station)) f ≡ m .station
-  move-changes s a = ap (λ (q : Record). changed (startedPart q) f) (a .station) ∙ started _ _ ∙ sym (a .station)
+  pub move-changes : (s : Stage Figure) → Advanced f (move figures n K s g) m
+      → changed (startedPart (m .station)) f ≡ meeting 0 (m .station)
+  move-changes s a =
+      ap (λ (q : Record). changed (startedPart q) f) (a .station) ∙ started _ ∙ ap (meeting 0) (sym (a .station))

@@ -17,6 +17,7 @@ use Rattle.model.specs.Told.{told}
 use Rattle.model.proofs.Basics.Tests.{T-false}
 use Rattle.model.proofs.Calls.Refused.{stepOn-refused, refused-again}
 use Rattle.model.proofs.Calls.Runs.{after-append, ran-both}
+use Rattle.codec.specs.Parts.{meeting}
 use Rattle.soundness.specs.declared.place.Place.{Place}
 use Rattle.soundness.specs.declared.place.Place.the-variants as places
 use Rattle.soundness.specs.Placed.{Placed}
@@ -84,7 +85,7 @@ module _ (n K j at : ℕ) (b : List ℕ) (k : Known n K j at b) where
   unfolding StepsOn TakesOn
   takes z l a d one =
       let low : 1 ≤ getD b at 0 = omega arith in
-      (sym (stepping.is-taken n K j at b k (readRecord (part at 24 b)) refl low l), one .1)
+      (sym (stepping.is-taken n K j at b k (meeting 0 (readRecord (part at 24 b))) refl low l), one .1)
 
   -- steps leave the head and the length, and with them the place
   still-known : (is d : List ℕ) → Ran b is d → Known n K j at d

@@ -11,7 +11,7 @@ use Rattle.model.specs.Figure.{Figure}
 use Rattle.model.specs.Listing.{Station, idle, active, has-decided, is-spent, accepted}
 use Rattle.model.specs.Filled.{Report, refusal}
 use Rattle.model.specs.Layout.{recordAt, readRecord, layRecord, ofPhase, recordValue, recordOf, putChanges, stepsIs}
-use Rattle.model.specs.Layout.{stationOf}
+use Rattle.model.specs.Layout.{stationOf, changed}
 use Rattle.model.specs.Sound.{fieldsSound, recordSound, mostMet}
 use Rattle.model.specs.Calls.{After, Refusal, stations, islands, boardRefusal, stationRefusal, stationAt, unlessRefused}
 use Rattle.model.specs.Calls.{notGoing, access, stepped, stepOn}
@@ -21,6 +21,7 @@ use Rattle.model.proofs.Basics.Numbers.{Bytes}
 use Rattle.model.proofs.Basics.Splices.{length-part, byte-part}
 use Rattle.model.proofs.Basics.Parts.{part-Bytes}
 use Rattle.model.proofs.Board.Canon.{bytes-record}
+use Rattle.model.proofs.Board.Codec.{value-beside}
 use Rattle.model.proofs.Board.Values.{sound-counts}
 use Rattle.model.proofs.Calls.Refusals.{board-of, OnBoard, station-passes}
 use Rattle.model.proofs.Calls.Accepted.{stepOn-access}
@@ -28,13 +29,13 @@ use Rattle.model.proofs.Calls.StepsTaken.{steps-few}
 use Rattle.model.proofs.Calls.Refused.{access-accepts}
 use Rattle.soundness.specs.declared.place.Place.{Place}
 use Rattle.soundness.specs.declared.place.Place.the-variants as places
-use Rattle.codec.specs.Parts.{stepsRead}
+use Rattle.codec.specs.Parts.{meeting, stepsRead}
 use Rattle.soundness.specs.Placed.{On, Placed}
 use Rattle.soundness.proofs.Laws.Placing.{at-place, not-placed, own-value}
 use Rattle.archipelago.specs.Advanced.{Ready}
 use Rattle.stepping.specs.Stepped.{Accesses, OnSize, Stands, Known, StepsOn}
 use Rattle.stepping.proofs.Laws.Accessing.{Standing, standing, steps-kept, counted}
-use Rattle.stepping.proofs.Laws.Ready.{ready}
+use Rattle.stepping.proofs.Laws.Ready.{ready, ready-unmet}
 
 -- the contents of a lent slice of bytes are bytes
 pub all-bytes : (b : List ℕ) → ((i : ℕ) → getD b i 0 < 256) → Bytes b
@@ -129,7 +130,14 @@ module _ (n K j at : ℕ) (b : List ℕ) (k : Known n K j at b) where
   pub going-size : OnSize n K j b
   going-size = as-read (λ n K. OnSize n K j b) size-now
 
-  module _ (f : Record) (e : f ≡ readRecord (part at 24 b)) (low : 1 ≤ getD b at 0) (high : getD b at 0 ≤ 6) where
+  abbrev there : Record
+  there = readRecord (part at 24 b)
+
+  module _ (f : Record) (e : f ≡ meeting 0 there) (low : 1 ≤ getD b at 0) (high : getD b at 0 ≤ 6) where
+    same-value : recordValue f ≡ recordValue there
+    unfolding changed
+    same-value = ap recordValue e ∙ value-beside (there .steps) 0 there
+
     fields : T (fieldsSound (getD b 0 0) (getD b 1 0) (byte (part at 24 b) 0) (part at 24 b))
     unfolding stations islands recordSound recordOf
     fields =
@@ -139,7 +147,7 @@ module _ (n K j at : ℕ) (b : List ℕ) (k : Known n K j at b) where
         (search (and-l, and-r))
 
     -- its collect has met no more than it has read
-    met-low : readRecord (part at 24 b) .met ≤ mostMet (recordValue (readRecord (part at 24 b)))
+    met-low : there .met ≤ mostMet (recordValue there)
     unfolding stations islands recordOf stationOf
     met-low =
         subst (λ (x : ℕ). readRecord (part x 24 b) .met ≤ mostMet (recordValue (readRecord (part x 24 b))))
@@ -148,16 +156,18 @@ module _ (n K j at : ℕ) (b : List ℕ) (k : Known n K j at b) where
     ready-now : Ready (getD b 0 0) (getD b 1 0) f
     unfolding readRecord
     ready-now =
-        let q = phase-byte b at f e in
+        let q = phase-byte b at there refl in
         subst (Ready (getD b 0 0) (getD b 1 0)) (sym e)
-        (ready (getD b 0 0) (getD b 1 0) (part at 24 b) fields (length-part at 24 b (k .on .inside))
-        (omega (arith, q, ap (λ (g : Record). g .phase) e)) (omega (arith, q, ap (λ (g : Record). g .phase) e)) met-low)
+        (ready-unmet (getD b 0 0) (getD b 1 0) there
+        (ready (getD b 0 0) (getD b 1 0) (part at 24 b) fields (length-part at 24 b (k .on .inside)) (omega (arith, q))
+        (omega (arith, q))))
 
     pub going-ready : Ready n K f
     going-ready = as-read (λ n K. Ready n K f) ready-now
 
     -- the bytes that stand there are those of the record: encoding after decoding is the identity on a sound one
     pub going-stands : ((i : ℕ) → Fits w8 (getD b i 0)) → Stands n K j at f b
+    unfolding changed
     going-stands known =
         as-read (λ n K. Stands n K j at f b)
         (record {
@@ -165,21 +175,22 @@ module _ (n K j at : ℕ) (b : List ℕ) (k : Known n K j at b) where
           laid =
               sym (bytes-record (getD b 0 0) (getD b 1 0) _ (length-part at 24 b (k .on .inside))
               (part-Bytes at 24 b (all-bytes b (λ i. known i .fits))) fields)
-              ∙ ap layRecord (sym e);
+              ∙ ap (λ (g : Record). layRecord (meeting (there .met) g)) (sym e);
+          met = rw same-value met-low;
         })
 
     -- a sound board has room for one step more
     steps-low : f .steps ≤ 3264
-    unfolding stations islands recordOf
+    unfolding stations islands recordOf changed
     steps-low =
         let few = steps-few b (board-of b none (k .sound) .0) j (k .on .own) in
         omega (
           arith,
           few,
-          ap (λ (g : Record). g .steps) (e ∙ ap (λ (x : ℕ). readRecord (part x 24 b)) (k .on .place)),
+          ap (λ (g : Record). g .steps) e ∙ ap (λ (x : ℕ). readRecord (part x 24 b) .steps) (k .on .place),
         )
 
-    pub steps-room : (r : StepAnswer) (d : List ℕ) → Accesses n K j f b r d → stepsRead at d < 65535
+    pub steps-room : (r : StepAnswer) (d : List ℕ) → Accesses n K j at f b r d → stepsRead at d < 65535
     steps-room r d a =
         omega (
           arith,
@@ -196,14 +207,14 @@ module _ (n K j at : ℕ) (b : List ℕ) (k : Known n K j at b) where
     unfolding stations islands
     accesses =
         stepOn-access (j + 1) b (record { low = k .on .low; high = k .on .high }) (f .proposal) (here .stage)
-        (own-value (j + 1) b j at (k .on) f e ∙ here .stands) (here .goes)
+        (own-value (j + 1) b j at (k .on) there refl ∙ sym same-value ∙ here .stands) (here .goes)
 
-    pub goes : (r : StepAnswer) (d x : List ℕ) → Accesses n K j f b r d
+    pub goes : (r : StepAnswer) (d x : List ℕ) → Accesses n K j at f b r d
         → x ≡ putChanges (stepsIs (stepsRead at d + 1) ∷ []) at d → StepsOn (j + 1) b r x
     unfolding StepsOn
     goes r d x a q =
-        let s = subst (λ (m : ℕ). Accesses m (getD b 1 0) j f b r d) (k .stations)
-        (subst (λ (m : ℕ). Accesses n m j f b r d) (k .islands) a) in
+        let s = subst (λ (m : ℕ). Accesses m (getD b 1 0) j at f b r d) (k .stations)
+        (subst (λ (m : ℕ). Accesses n m j at f b r d) (k .islands) a) in
         let p = subst (λ (m : ℕ). (told r ≡ access (getD b 0 0) (getD b 1 0) m (f .proposal) (here .stage) b .answer)
         × (x ≡ access (getD b 0 0) (getD b 1 0) m (f .proposal) (here .stage) b .bytes)) (k .on .index)
         (counted _ _ j at f b ready-now size-now (k .on .place) e steps-low r d x s q here) in (

@@ -3,7 +3,6 @@ use Rattle.model.proofs.Kit.{ap, toZ-ofZ}
 use Rattle.model.specs.Figure.{Figure}
 use Rattle.model.specs.Listing.{nothing}
 use Rattle.model.specs.Layout.{fields, changed, seenNumber, bestIsland, bestFigure}
-use Rattle.archipelago.specs.Advanced.{meeting}
 use Rattle.archipelago.proofs.finish.start.Statement.{statement}
 use Rattle.archipelago.proofs.finish.start.Tie as tie
 
@@ -11,8 +10,7 @@ returns : tie.Need-returns
 unfolding fields changed seenNumber bestIsland bestFigure
 returns c =
     let a = c .args in
-    ap (λ (x : Figure). fields (a .phase) 0 (a .island) nothing (a .flag) (a .station .proposal) x
-    (meeting 0 (a .station)))
+    ap (λ (x : Figure). fields (a .phase) 0 (a .island) nothing (a .flag) (a .station .proposal) x (a .station))
     (toZ-ofZ (c .fits .carried))
 
 pub start-spec : {M : Type 1} → statement M

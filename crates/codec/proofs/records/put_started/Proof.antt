@@ -13,6 +13,7 @@ same-length c =
 pub put-started-spec : {M : Type 1} → statement M
 put-started-spec =
     tie.close (tie.spec (λ c. search needs) (λ c. search needs) (λ c. simp length-set (omega arith)) (λ c. search needs)
-    (λ c. simp length-set (omega arith)) (λ c. search needs) (λ c κs. simp length-set (omega arith))
+    (λ c. simp length-set (omega arith)) (λ c. search needs) (λ c. simp length-set (omega arith)) (λ c. search needs)
+    (λ c κs. simp length-set (omega arith))
     (λ c κs. omega (arith, simp length-set at (c .before .before .before .put-figure .kept .0))) same-length
     (λ c. search (started-put, needs)))

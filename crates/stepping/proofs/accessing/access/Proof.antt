@@ -2,7 +2,8 @@
 -- what is put back is what the listing's move changed, at the places it names; each return is a law of Accessing.
 use Rattle.model.proofs.Kit.{needs}
 use Rattle.stepping.proofs.Laws.Accessing.{place-fits, record-fits, record-fits-after, accessed-writing}
-use Rattle.stepping.proofs.Laws.Accessing.{accessed-ending, accessed-collecting}
+use Rattle.stepping.proofs.Laws.Accessing.{accessed-ending, accessed-empty, accessed-filled, total-room}
+use Rattle.stepping.proofs.Laws.Accessing.{count-fits, count-room}
 use Rattle.stepping.proofs.accessing.access.Statement.{statement}
 use Rattle.stepping.proofs.accessing.access.Tie as tie
 
@@ -10,5 +11,7 @@ pub access-spec : {M : Type 1} → statement M
 access-spec =
     tie.close (tie.spec (λ c κs. search needs) (λ c κs. search place-fits) (λ c κs. search needs)
     (λ c κs. search place-fits) (λ c κs. search record-fits-after) (λ c. search needs) (λ c. search accessed-writing)
-    (λ c κs. search record-fits) (λ c. search needs) (λ c. search accessed-ending) (λ c κs. search record-fits)
-    (λ c. search needs) (λ c. search accessed-collecting))
+    (λ c κs. (search record-fits, search total-room)) (λ c κs. search needs) (λ c κs. search record-fits)
+    (λ c. search needs) (λ c. search accessed-ending) (λ c κs. search record-fits) (λ c. search needs)
+    (λ c. search accessed-empty) (λ c κs. (search count-fits, search count-room)) (λ c. search needs)
+    (λ c. search accessed-filled))

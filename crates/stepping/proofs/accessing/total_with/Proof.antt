@@ -1,0 +1,11 @@
+-- `accessing::total_with` meets its contract: the byte that it reads is the count of the record that stands there.
+use Rattle.model.proofs.Kit.{needs}
+use Rattle.codec.proofs.Laws.Stores.{met-fits}
+use Rattle.stepping.proofs.Laws.Met.{total-empty, total-filled}
+use Rattle.stepping.proofs.accessing.total_with.Statement.{statement}
+use Rattle.stepping.proofs.accessing.total_with.Tie as tie
+
+pub total-with-spec : {M : Type 1} → statement M
+total-with-spec =
+    tie.close (tie.spec (λ c. search needs) (λ c. search needs) (λ c. search total-empty)
+    (λ c. search (met-fits, needs)) (λ c. search total-filled))
