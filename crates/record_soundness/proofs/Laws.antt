@@ -3,5 +3,5 @@ pub mod Chains
 pub mod Clauses
 pub mod Held
 pub mod Own
-pub mod Records
 pub mod Counts
+pub mod Records

@@ -2,20 +2,23 @@
 // collect has met against its position.
 // Relies on fields; records rely on it.
 ghost use mathlib.Core.Path.{_≡_};
-ghost use Prim.Native.Nat.{_≤_};
+ghost use Prim.Native.Nat.{_+_, _≤_};
 ghost use Rattle.model.specs.Layout.{recordValue};
-ghost use mathlib.Core.Bool.{true};
-ghost use Rattle.model.specs.Sound.{collectZero, metKept, stepsKept};
-ghost use Rattle.record_soundness.specs.Groups.{laid};
+ghost use lib.Dec.{leb};
+ghost use lib.ListN.{length};
+ghost use Rattle.model.specs.Sound.{stepsKept};
+ghost use Rattle.record_soundness.specs.Groups.{metPair};
 use crate::fields::is_collecting;
+use figures::pairs::pair_at;
 use model::Record;
 
-// One comparison is enough, since the position is 0 outside of a collect.
-pub fn met_sound(f: Record) -> bool
-    requires { ⌜ (f .phase ≤ 8) × (laid collectZero f ≡ true) ⌝ }
-    ensures { λ r. ⌜ r ≡ metKept (f .met) (recordValue f) ⌝ }
+// What was met and the byte behind it, which is zero, as one number. One comparison is enough for both, since the position
+// is a byte, and 0 outside of a collect.
+pub fn met_sound(s: &[u8], at: usize, position: u8) -> bool
+    requires { ⌜ at + 24 ≤ length (now s) ⌝ }
+    ensures { λ r. ⌜ r ≡ leb (metPair at (now (s .entry))) position ⌝ }
 {
-    f.met <= f.position
+    pair_at(s, at + 6) <= position as u16
 }
 
 // A turn is a write and n reads. The turns behind a station are three for each island that it has passed and those of its

@@ -37,17 +37,14 @@ fn record_sound(s: &[u8], at: usize, n: usize, k: usize, i: usize) -> bool
     if s[at] == IDLE {
         return idle_sound(s, at);
     }
-    if s[at + 7] != 0 {
-        return false;
-    }
     if !zero_pair(s, at + 22) {
         return false;
     }
     let f = record_at(s, at);
-    if !fields_sound(f, n, k) {
+    if !met_sound(s, at, f.position) {
         return false;
     }
-    if !met_sound(f) {
+    if !fields_sound(f, n, k) {
         return false;
     }
     if !steps_sound(f, n) {

@@ -147,7 +147,7 @@ fn access(board: &mut [u8], n: u8, k: u8, j: usize, at: usize, station: Record) 
         return ended;
     }
     put_collected(board, at, moved.station);
-    if register.mark == 0 {
+    if register.mark == 0 { // empty: not counted
         return StepAnswer::Read { filled: false };
     }
     count_met(board, at);

@@ -2,14 +2,15 @@
 -- write and what it has read. Of filled registers met: what it has read.
 -- Relies on soundness's bounds; the proofs of `steps_sound` and `met_sound` rely on it.
 use Rattle.model.proofs.Kit.{_≡_, refl, sym, ap, _∙_, Bool, true, false, cond, ℕ, zero, suc, _+_, _-_, _≤_, _/_, _*_}
-use Rattle.model.proofs.Kit.{_<_, _&&_, leb, eqb, eqb→eq, T, le-leb, mul-le-mul, ℕ-discrete, arith}
+use Rattle.model.proofs.Kit.{_<_, _&&_, List, length, leb, leb→le, eqb, eqb→eq, T, le-leb, mul-le-mul, ℕ-discrete, arith}
 use Rattle.model.specs.declared.Record.{Record}
-use Rattle.model.specs.Layout.{writingOf, readingOf, ofPhase, recordValue, layRecord}
-use Rattle.model.specs.Bytes.{part, zeros}
+use Rattle.model.specs.Layout.{writingOf, readingOf, ofPhase, recordValue, layRecord, metAt, gapAt}
+use Rattle.model.specs.Bytes.{byte, number, part, zeros}
 use Rattle.model.specs.Sound.{collecting, collectZero, turnsBefore, presentPass, islandOf, mostSteps, stepsKept}
 use Rattle.model.specs.Sound.{mostMet, metKept}
 use Rattle.model.proofs.Basics.Tests.{and-l, true-T}
-use Rattle.record_soundness.specs.Groups.{laid}
+use Rattle.model.proofs.Basics.Parts.{listed, part-listed}
+use Rattle.record_soundness.specs.Groups.{laid, metPair}
 
 module _ (n : ℕ) (f : Record) where
   -- the steps of the turns behind a station
@@ -92,7 +93,40 @@ module _ (f : Record) where
   met-at (suc (suc (suc (suc (suc (suc (suc (suc zero)))))))) h t = at-zero t
   met-at (suc (suc (suc (suc (suc (suc (suc (suc (suc k))))))))) h t = absurd (omega arith)
 
+  -- so that it is the most that a collect may have met
+  pub most-met : f .phase ≤ 8 → laid collectZero f ≡ true → mostMet (recordValue f) ≡ f .position
+  unfolding recordValue
+  most-met h e = met-at (f .phase) h (true-T _ e)
+
   pub met-kept : f .phase ≤ 8 → laid collectZero f ≡ true
       → leb (f .met) (f .position) ≡ metKept (f .met) (recordValue f)
-  unfolding metKept recordValue
-  met-kept h e = ap (leb (f .met)) (sym (met-at (f .phase) h (true-T _ e)))
+  unfolding metKept
+  met-kept h e = ap (leb (f .met)) (sym (most-met h e))
+
+-- ---- with the byte behind it
+
+module _ (b : List ℕ) (at : ℕ) where
+  pub pair-kept : (x p : ℕ) → x ≡ metPair at b → leb x p ≡ leb (metPair at b) p
+  pair-kept x p e = ap (λ (k : ℕ). leb k p) e
+
+  module _ (h : at + 24 ≤ length b) where
+    pub pair-is : metPair at b ≡ byte b (at + metAt) + 256 * byte b (at + gapAt)
+    unfolding number listed
+    pair-is =
+        ap number (part-listed (at + metAt) 2 b (omega arith))
+        ∙ (λ i. byte b (first i) + 256 * (byte b (second i) + 256 * 0)) ∙ omega arith
+      where
+        first : at + metAt + 0 ≡ at + metAt
+        first = omega arith
+
+        second : at + metAt + 1 ≡ at + gapAt
+        second = omega arith
+
+    -- a number that a byte bounds has a high byte of zero
+    pub pair-low : (p : ℕ) → p < 256 → leb (metPair at b) p ≡ true
+        → (byte b (at + gapAt) ≡ 0) × (byte b (at + metAt) ≤ p)
+    pair-low p l e =
+        let few = leb→le (metPair at b) p (true-T _ e) in (omega (arith, few, pair-is), omega (arith, few, pair-is))
+
+    pub pair-high : (p : ℕ) → byte b (at + gapAt) ≡ 0 → byte b (at + metAt) ≤ p → leb (metPair at b) p ≡ true
+    pair-high p z l = le-leb (metPair at b) p (omega (arith, pair-is))

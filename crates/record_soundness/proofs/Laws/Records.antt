@@ -2,21 +2,23 @@
 -- register.
 -- Relies on the layout, the model's laws of a record's parts and codec's of reads; the proofs of records rely on it.
 use Rattle.model.proofs.Kit.{_≡_, refl, sym, ap, subst, _∙_, Bool, true, false, _&&_, List, [], _∷_, ℕ, suc, _+_, _≤_}
-use Rattle.model.proofs.Kit.{_<_, le-ltb, leb→le, eq-eqb, ne-eqb, eqb, lit≤, T, length, replicate, w8, w64, Fits, mul-le-mul}
+use Rattle.model.proofs.Kit.{_<_, le-ltb, leb, leb→le, le-leb, eq-eqb, eqb→eq, eqb, lit≤, T, length, replicate, w8, w64, Fits, mul-le-mul}
 use Rattle.model.proofs.Kit.{not, lit<, add-zero, lt-of-not-le, arith}
 use native.Mathlib.Decide.{decLe}
 use Rattle.model.specs.declared.Record.{Record}
 use Rattle.model.specs.Bytes.{byte, number, part, zeros}
 use Rattle.model.specs.Layout.{boardLength, recordAt, recordOf, readRecord, layRecord, recordValue, gapAt, gap}
-use Rattle.model.specs.Layout.{tailAt, tail}
+use Rattle.model.specs.Layout.{tailAt, tail, metAt}
 use Rattle.model.specs.Sound.{phaseKnown, positionInside, islandInside, bestInside, flagKnown, restZero, idleZero}
 use Rattle.model.specs.Sound.{collectZero, bestIslandZero, bestZero, seenKnown}
-use Rattle.model.specs.Sound.{fieldsSound, ownWritten, ownPassed, stepsKept, metKept, recordSound}
+use Rattle.model.specs.Sound.{fieldsSound, ownWritten, ownPassed, stepsKept, mostMet, metKept}
+use Rattle.model.specs.Sound.{recordSound}
 use Rattle.model.proofs.Board.Codec.{length-record, steps-back}
 use Rattle.model.proofs.Basics.Numbers.{Bytes, number-digits}
 use Rattle.model.proofs.Basics.Tests.{both, and-false, and-l, and-r, and-i, true-T, T-true, no-T, zeros-is}
 use Rattle.model.proofs.Basics.Tests.{implies-use}
-use Rattle.record_soundness.specs.Groups.{laid}
+use Rattle.record_soundness.specs.Groups.{laid, metPair}
+use Rattle.record_soundness.proofs.Laws.Counts.{most-met, pair-low, pair-high}
 use Rattle.model.proofs.Basics.Parts.{part-Bytes, listed, part-listed}
 use Rattle.model.proofs.Basics.Splices.{length-part, byte-part}
 use Rattle.model.proofs.Board.Canon.{laid-fields}
@@ -63,6 +65,11 @@ pub collect-rests : (n K : ℕ) (f : Record) → fieldsSound n K (f .phase) (lay
 unfolding fieldsSound
 collect-rests n K f e =
     let t = true-T (fieldsSound n K (f .phase) (layRecord f)) e in T-true _ (search (and-l, and-r) depth 12)
+
+-- and zero in the byte behind what it has met
+gap-kept : (n K phase : ℕ) (r : List ℕ) → T (fieldsSound n K phase r) → T (zeros (part gapAt gap r))
+unfolding fieldsSound restZero
+gap-kept n K phase r t = search (and-l, and-r) depth 14
 
 -- and counts no step while it is idle
 pub idle-none : (n K : ℕ) (f : Record) → fieldsSound n K (f .phase) (layRecord f) ≡ true → f .steps < 65536
@@ -177,15 +184,6 @@ module _ {n k i at : ℕ} {b : List ℕ} (p : Placed n k i at b) where
       ap zeros (part-listed (at + gapAt) gap b (omega (arith, record-place)))
       ∙ sym (and-true _) ∙ ap (λ (x : ℕ). eqb (byte b x) 0) (add-zero (at + gapAt))
 
-  pub gap-zero : byte b (at + gapAt) ≡ 0 → zeros (part (at + gapAt) gap b) ≡ true
-  gap-zero e = gap-byte ∙ eq-eqb (byte b (at + gapAt)) 0 e
-
-  pub gap-fails : (byte b (at + gapAt) ≡ 0 → ⊥) → false ≡ recordSound n k i b (recordOf n k i b)
-  unfolding restZero
-  gap-fails ne =
-      rest (ap (λ (x : Bool). x && zeros (part tailAt tail (recordOf n k i b)))
-      (sym (zeros-in gapAt gap (lit≤ tt)) ∙ gap-byte ∙ ne-eqb (byte b (at + gapAt)) 0 ne))
-
   pub tail-fails : zeros (part (at + tailAt) tail b) ≡ false → false ≡ recordSound n k i b (recordOf n k i b)
   unfolding restZero
   tail-fails q =
@@ -193,54 +191,86 @@ module _ {n k i at : ℕ} {b : List ℕ} (p : Placed n k i at b) where
       (sym (zeros-in tailAt tail (lit≤ tt)) ∙ q)
       ∙ and-false (zeros (part gapAt gap (recordOf n k i b))))
 
-  module _ (bytes : (j : ℕ) → Fits w8 (byte b j)) (f : Record) (read : f ≡ readRecord (part at 24 b)) where
-    module _ (front : byte b (at + gapAt) ≡ 0) (back : zeros (part (at + tailAt) tail b) ≡ true) where
+  module _ (bytes : (j : ℕ) → Fits w8 (byte b j)) (f : Record) (read : f ≡ readRecord (part at 24 b))
+      (back : zeros (part (at + tailAt) tail b) ≡ true) where
+    same : f ≡ readRecord (recordOf n k i b)
+    same = read ∙ ap readRecord here
+
+    met-read : f .met ≡ byte b (at + metAt)
+    unfolding readRecord
+    met-read = ap (λ (g : Record). g .met) read ∙ byte-part at 24 b metAt (lit< tt)
+
+    position-low : f .position < 256
+    unfolding readRecord
+    position-low =
+        omega (arith, ap (λ (g : Record). g .position) read ∙ byte-part at 24 b 1 (lit< tt), bytes (at + 1) .fits)
+
+    module _ (front : byte b (at + gapAt) ≡ 0) where
       whole : recordOf n k i b ≡ layRecord f
       unfolding restZero
       whole =
           sym (laid-fields (recordOf n k i b) (ap length (sym here) ∙ length-part at 24 b record-place)
           (subst Bytes here (part-Bytes at 24 b (all-bytes b bytes)))
           (and-i (zeros (part gapAt gap (recordOf n k i b))) (zeros (part tailAt tail (recordOf n k i b)))
-          (true-T _ (sym (zeros-in gapAt gap (lit≤ tt)) ∙ gap-zero front))
+          (true-T _ (sym (zeros-in gapAt gap (lit≤ tt)) ∙ gap-byte ∙ eq-eqb (byte b (at + gapAt)) 0 front))
           (true-T _ (sym (zeros-in tailAt tail (lit≤ tt)) ∙ back))))
-          ∙ ap layRecord (ap readRecord (sym here) ∙ sym read)
-
-      same : f ≡ readRecord (recordOf n k i b)
-      same = read ∙ ap readRecord here
+          ∙ ap layRecord (sym same)
 
       fields-is : fieldsSound n k (f .phase) (layRecord f)
           ≡ fieldsSound n k (byte (recordOf n k i b) 0) (recordOf n k i b)
       unfolding layRecord
       fields-is = sym (λ q. fieldsSound n k (byte (whole q) 0) (whole q))
 
+      -- of a sound record the position is the most that it may have met
+      most-is : fieldsSound n k (f .phase) (layRecord f) ≡ true → mostMet (recordValue f) ≡ f .position
+      most-is q = most-met f (phase-inside n k f q) (collect-rests n k f q)
+
+    pub pair-fails : leb (metPair at b) (f .position) ≡ false → false ≡ recordSound n k i b (recordOf n k i b)
+    unfolding recordSound restZero metKept
+    pair-fails e =
+        sym (no-T _ (λ (t : T (recordSound n k i b (recordOf n k i b))).
+        let sound : T (fieldsSound n k (byte (recordOf n k i b) 0) (recordOf n k i b)) = search (and-l, and-r) in
+        let gap-zero : T (zeros (part gapAt gap (recordOf n k i b))) = gap-kept n k _ _ sound in
+        let front : byte b (at + gapAt) ≡ 0 =
+        eqb→eq _ 0 (subst T (sym (zeros-in gapAt gap (lit≤ tt)) ∙ gap-byte) gap-zero) in
+        let kept : T (metKept (readRecord (recordOf n k i b) .met) (recordValue (readRecord (recordOf n k i b)))) =
+        search (and-l, and-r) in
+        let few : f .met ≤ mostMet (recordValue f) =
+        leb→le (f .met) (mostMet (recordValue f)) (subst (λ (g : Record). T (leb (g .met) (mostMet (recordValue g)))) (sym same) kept) in
+        let most = most-is front (fields-is front ∙ T-true _ sound) in
+        true-T _ (sym e ∙ pair-high b at record-place (f .position) front (omega (arith, met-read, few, most)))))
+
+    module _ (pass : leb (metPair at b) (f .position) ≡ true) where
+      front : byte b (at + gapAt) ≡ 0
+      front = pair-low b at record-place (f .position) position-low pass .0
+
       pub fields-fail : fieldsSound n k (f .phase) (layRecord f) ≡ false
           → false ≡ recordSound n k i b (recordOf n k i b)
-      fields-fail q = fails (sym fields-is ∙ q)
-
-      -- a clause on the counts, which a sound record keeps
-      clause-fails : (clause : Record → Bool)
-          → (T (recordSound n k i b (recordOf n k i b)) → T (clause (readRecord (recordOf n k i b))))
-          → clause f ≡ false → false ≡ recordSound n k i b (recordOf n k i b)
-      clause-fails clause kept q = sym (no-T _ (λ t. subst T (ap clause (sym same) ∙ q) (kept t)))
+      fields-fail q = fails (sym (fields-is front) ∙ q)
 
       pub steps-fail : stepsKept n (f .steps) (recordValue f) ≡ false
           → false ≡ recordSound n k i b (recordOf n k i b)
       unfolding recordSound
-      steps-fail = clause-fails (λ g. stepsKept n (g .steps) (recordValue g)) (λ t. search (and-l, and-r))
+      steps-fail q =
+          sym (no-T _ (λ (t : T (recordSound n k i b (recordOf n k i b))). let kept : T (stepsKept n
+          (readRecord (recordOf n k i b) .steps) (recordValue (readRecord (recordOf n k i b)))) = search (and-l, and-r) in
+          subst T (ap (λ (g : Record). stepsKept n (g .steps) (recordValue g)) (sym same) ∙ q) kept))
 
-      pub met-fail : metKept (f .met) (recordValue f) ≡ false → false ≡ recordSound n k i b (recordOf n k i b)
-      unfolding recordSound
-      met-fail = clause-fails (λ g. metKept (g .met) (recordValue g)) (λ t. search (and-l, and-r))
+      met-passes : fieldsSound n k (f .phase) (layRecord f) ≡ true → metKept (f .met) (recordValue f) ≡ true
+      unfolding metKept
+      met-passes q =
+          le-leb (f .met) (mostMet (recordValue f))
+          (omega (arith, met-read, most-is front q, pair-low b at record-place (f .position) position-low pass .1))
 
       pub record-form : (a : Bool) → fieldsSound n k (f .phase) (layRecord f) ≡ true
-          → metKept (f .met) (recordValue f) ≡ true → stepsKept n (f .steps) (recordValue f) ≡ true
+          → stepsKept n (f .steps) (recordValue f) ≡ true
           → a ≡ ownWritten n i b (recordValue f) && ownPassed i (recordValue f)
           → a ≡ recordSound n k i b (recordOf n k i b)
       unfolding recordSound
-      record-form a q m c h =
+      record-form a q c h =
           h ∙ and-true _ ∙ and-true _
-          ∙ (λ s. ownWritten n i b (recordValue f) && ownPassed i (recordValue f) && sym c s && sym m s)
-          ∙ (λ s. let g = same s in (sym q ∙ fields-is) s && ownWritten n i b (recordValue g)
+          ∙ (λ s. ownWritten n i b (recordValue f) && ownPassed i (recordValue f) && sym c s && sym (met-passes q) s)
+          ∙ (λ s. let g = same s in (sym q ∙ fields-is front) s && ownWritten n i b (recordValue g)
           && ownPassed i (recordValue g) && stepsKept n (g .steps) (recordValue g) && metKept (g .met) (recordValue g))
 
 -- the next record
