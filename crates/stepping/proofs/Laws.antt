@@ -4,6 +4,7 @@ pub mod Touching
 pub mod Putting
 pub mod Met
 pub mod Accessing
+pub mod Counting
 pub mod Stepping
 pub mod Checking
 pub mod Running

@@ -75,47 +75,27 @@ fn with_total(answer: StepAnswer, total: u8) -> StepAnswer
     match answer {
         StepAnswer::Wrote => StepAnswer::Wrote,
         StepAnswer::Read { filled } => StepAnswer::Read { filled },
-        StepAnswer::Went {
-            island,
-            total: _,
-            figure,
-        } => StepAnswer::Went {
+        StepAnswer::Went { island, figure, .. } => StepAnswer::Went {
             island,
             total,
             figure,
         },
-        StepAnswer::Marked {
-            flag,
-            total: _,
-            figure,
-        } => StepAnswer::Marked {
+        StepAnswer::Marked { flag, figure, .. } => StepAnswer::Marked {
             flag,
             total,
             figure,
         },
-        StepAnswer::Adopted {
-            island,
-            total: _,
-            figure,
-        } => StepAnswer::Adopted {
+        StepAnswer::Adopted { island, figure, .. } => StepAnswer::Adopted {
             island,
             total,
             figure,
         },
-        StepAnswer::Decided {
-            island,
-            total: _,
-            figure,
-        } => StepAnswer::Decided {
+        StepAnswer::Decided { island, figure, .. } => StepAnswer::Decided {
             island,
             total,
             figure,
         },
-        StepAnswer::Spent {
-            island,
-            total: _,
-            figure,
-        } => StepAnswer::Spent {
+        StepAnswer::Spent { island, figure, .. } => StepAnswer::Spent {
             island,
             total,
             figure,

@@ -7,7 +7,7 @@ use Rattle.model.specs.declared.Record.{Record}
 use Rattle.model.specs.Layout.{writingOf, readingOf, ofPhase, recordValue, layRecord, metAt, gapAt}
 use Rattle.model.specs.Bytes.{byte, number, part, zeros}
 use Rattle.model.specs.Sound.{collecting, collectZero, turnsBefore, presentPass, islandOf, mostSteps, stepsKept}
-use Rattle.model.specs.Sound.{mostMet, metKept}
+use Rattle.model.specs.Sound.{mostMet}
 use Rattle.model.proofs.Basics.Tests.{and-l, true-T}
 use Rattle.model.proofs.Basics.Parts.{listed, part-listed}
 use Rattle.record_soundness.specs.Groups.{laid, metPair}
@@ -97,11 +97,6 @@ module _ (f : Record) where
   pub most-met : f .phase ≤ 8 → laid collectZero f ≡ true → mostMet (recordValue f) ≡ f .position
   unfolding recordValue
   most-met h e = met-at (f .phase) h (true-T _ e)
-
-  pub met-kept : f .phase ≤ 8 → laid collectZero f ≡ true
-      → leb (f .met) (f .position) ≡ metKept (f .met) (recordValue f)
-  unfolding metKept
-  met-kept h e = ap (leb (f .met)) (sym (most-met h e))
 
 -- ---- with the byte behind it
 

@@ -1,19 +1,19 @@
 -- An accepted step: where it reads and writes lies on the board, and what is put back is what the model's access puts.
--- Relies on Ready, Putting, the promise of `move_station` and the model's access; the proof of `access` relies on it.
+-- Relies on Ready, Putting, Met and the promise of `move_station`; the proof of `access` relies on it.
 use Rattle.model.proofs.Kit.{_≡_, refl, sym, ap, subst, _∙_, true, false, List, Option, ℕ, zero, suc, _+_, _≤_, _<_}
-use Rattle.model.proofs.Kit.{[], _∷_, none, some, length, arith}
+use Rattle.model.proofs.Kit.{[], _∷_, length, arith}
 use Rattle.model.specs.declared.Record.{Record}
 use Rattle.model.specs.declared.Register as Fields
 use Rattle.model.specs.Bytes.{part, splice, digits}
 use Rattle.model.specs.Figure.{Figure, figures, figureBytes}
 use Rattle.model.specs.Listing.{Turn, turnM, turnA, turnB, Register, Stage, writing, reading, has-decided, is-spent}
-use Rattle.model.specs.Listing.{Station, active, Array, move, placeArray, placeColumn}
+use Rattle.model.specs.Listing.{Station, active, move, placeArray, placeColumn}
 use Rattle.model.specs.Layout.{registerAt, recordAt, readRegister, layRegister, registerValue, layRecord, recordFields}
-use Rattle.model.specs.Layout.{recordValue, writingOf, readingOf, ofPhase, registerOf, recordOf, readRecord}
-use Rattle.model.specs.Layout.{Change, putChanges, stepsIs, metIs, withCounts, changed, boardLength}
+use Rattle.model.specs.Layout.{recordValue, writingOf, readingOf, ofPhase, registerOf, readRecord}
+use Rattle.model.specs.Layout.{Change, putChanges, metIs, changed}
 use Rattle.model.specs.Sound.{mostMet}
-use Rattle.model.specs.Filled.{filledIn, metKeptAt, report}
-use Rattle.model.specs.Calls.{putRecord, putRegister, access}
+use Rattle.model.specs.Filled.{filledIn, report}
+use Rattle.model.specs.Calls.{putRecord, putRegister}
 use Rattle.model.proofs.Board.Codec.{length-record}
 use Rattle.model.proofs.Basics.Tests.{clash}
 use Rattle.model.proofs.Basics.Splices.{length-splice, part-same, part-after}
@@ -21,10 +21,8 @@ use Rattle.model.proofs.Board.Places.{InBoard, register-inside, register-fits, 
 use Rattle.model.proofs.Board.Values.{array-inside}
 use Rattle.model.proofs.Listing.Going.{Going}
 use Rattle.model.proofs.Listing.Written.{read-writes}
-use Rattle.model.proofs.Board.Boards.{register-length, steps-over}
 use Rattle.model.proofs.Board.Changes.{all-put, put-back}
-use Rattle.model.proofs.Calls.StepsTaken.{record-steps}
-use Rattle.codec.specs.Parts.{meeting, stepsRead, metRead, phasePart, collectedPart, startedPart}
+use Rattle.codec.specs.Parts.{meeting, metRead, phasePart, collectedPart, startedPart}
 use Rattle.archipelago.specs.declared.Moved.{Moved}
 use Rattle.archipelago.specs.Advanced.{Ready, Written, Advanced, Moves}
 use Rattle.model.specs.declared.StepAnswer.{StepAnswer}
@@ -273,44 +271,3 @@ module _ (n K j : ℕ) (f : Record) (b : List ℕ) (place at : ℕ) (g : Fields.
           unwritten
           (ed ∙ ap (putChanges (metIs (metRead at c + 1) ∷ []) at) seen-put
           ∙ all-put at b (record-fits n K j b at z (o .place)) (metIs (metRead at c + 1) ∷ []) seen)
-
--- ---- one more in the steps, which makes the access the model's step
-
-put-length : (n K : ℕ) (b : List ℕ) → length b ≡ boardLength n K → (a : Array) → InBoard K a → (j : ℕ) → j < n
-    → (o : Option (Register Figure)) → length (putRegister n a j o b) ≡ boardLength n K
-unfolding putRegister
-put-length n K b len a inside j own none = len
-put-length n K b len a inside j own (some r) = register-length n K b len a inside j own r
-
-module _ (n K j at : ℕ) (f : Record) (b : List ℕ) (h : Ready n K f) (z : OnSize n K j b) (place : at ≡ recordAt n K j)
-    (read : f ≡ meeting 0 (readRecord (part at 24 b))) where
-  -- the access leaves the steps as they were
-  pub steps-kept : f .steps ≤ 3264 → (r : StepAnswer) (d : List ℕ) → Accesses n K j at f b r d → stepsRead at d ≡ f .steps
-  unfolding Accesses recordOf changed
-  steps-kept few r d a =
-      let s = standing n K j f h (z .own) in
-      let m = moveOn n K j (s .stage) b in
-      let len = put-length n K b (z .len) (placeArray (s .stage)) (s .inside) j (z .own) (m .written) in
-      (λ i. readRecord (part (place i) 24 (a (s .stage) (s .stands) .1 i)) .steps)
-      ∙ record-steps n K _ len j (z .own) (active (f .proposal) (m .stage)) _ (omega arith)
-
-  pub counted : f .steps ≤ 3264 → (r : StepAnswer) (d e : List ℕ) → Accesses n K j at f b r d
-      → e ≡ putChanges (stepsIs (stepsRead at d + 1) ∷ []) at d → (s : Standing n K j f)
-      → (told r ≡ access n K j (f .proposal) (s .stage) b .answer)
-      × (e ≡ access n K j (f .proposal) (s .stage) b .bytes)
-  unfolding Accesses access recordOf changed
-  counted few r d e a q s =
-      let m = moveOn n K j (s .stage) b in
-      let p = a (s .stage) (s .stands) in
-      let met : ℕ → ℕ = λ x. totalOn n j x (s .stage) b in
-      let put = putRegister n (placeArray (s .stage)) j (m .written) b in
-      let len = put-length n K b (z .len) (placeArray (s .stage)) (s .inside) j (z .own) (m .written) in (
-        p .0 ∙ ap (λ (x : ℕ). report (m .answer) (filledIn (registerOn n j (s .stage) b)) (met x)) place,
-        q ∙ (λ i. putChanges (stepsIs (steps-kept few r d a i + 1) ∷ []) (place i) (p .1 i))
-            ∙ steps-over n K put len j (z .own) (active (f .proposal) (m .stage)) (f .steps + 1) _
-            ∙ ap (λ (g : Record). putRecord n K j (recordFields (active (f .proposal) (m .stage))
-            (withCounts (g .steps + 1) (metKeptAt (m .stage) (met at)) g)) put) read
-            ∙ ap (λ (x : ℕ). let g = readRecord (part x 24 b) in
-            putRecord n K j (recordFields (active (f .proposal) (m .stage))
-            (withCounts (g .steps + 1) (metKeptAt (m .stage) (met x)) g)) put) place,
-      )

@@ -34,7 +34,8 @@ use Rattle.soundness.specs.Placed.{On, Placed}
 use Rattle.soundness.proofs.Laws.Placing.{at-place, not-placed, own-value}
 use Rattle.archipelago.specs.Advanced.{Ready}
 use Rattle.stepping.specs.Stepped.{Accesses, OnSize, Stands, Known, StepsOn}
-use Rattle.stepping.proofs.Laws.Accessing.{Standing, standing, steps-kept, counted}
+use Rattle.stepping.proofs.Laws.Accessing.{Standing, standing}
+use Rattle.stepping.proofs.Laws.Counting.{steps-kept, counted}
 use Rattle.stepping.proofs.Laws.Ready.{ready, ready-unmet}
 
 -- the contents of a lent slice of bytes are bytes
