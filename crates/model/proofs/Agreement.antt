@@ -8,11 +8,12 @@ pub mod Passed
 pub mod PairsA
 pub mod PairsB
 pub mod Licences
+pub mod Writes
+pub mod Inductive
 pub mod Invariant
 pub mod Restage
 pub mod Read
 pub mod Settle
-pub mod Writes
 pub mod Write
 pub mod StateCalls
 pub mod Decisions

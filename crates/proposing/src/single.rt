@@ -23,8 +23,8 @@ use soundness::place::station_place;
 // The refusal of a station that has proposed.
 const NOT_IDLE: u8 = 13;
 
-// "phase 1, c = 0, proposal and carried = the figure", no step taken since and nothing met. Each field is set, so that nothing need be
-// known of the record that stood there.
+// "phase 1, c = 0, proposal and carried = the figure", no step taken since and nothing met. Each field is set, so that nothing
+// need be known of the record that stood there.
 fn beginning(station: Record, figure: i32) -> Record
     ensures { λ r. ⌜ r ≡ recordFields (proposed figure) (withCounts 0 0 station) ⌝ }
 {

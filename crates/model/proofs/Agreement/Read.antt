@@ -10,15 +10,12 @@ use Rattle.model.proofs.Agreement.Registers.{Says, Marked, Figure, Best
 use Rattle.model.proofs.Agreement.Registers.{harmless-says, harmless-marked, says-one, adopt≢commit}
 use Rattle.model.proofs.Agreement.Reads.{located, met, kept, brought, clean}
 use Rattle.model.proofs.Agreement.Own.{Mine}
+use Rattle.model.proofs.Agreement.Inductive.{looked}
 use Rattle.model.proofs.Agreement.Passed.{Passed}
 use Rattle.model.proofs.Agreement.PairsB.{MayPass, passing, past}
 use Rattle.model.proofs.Agreement.Licences.{Sighted, Committed, Licensed}
 use Rattle.model.proofs.Agreement.Invariant.{Kept, own-at, held-at, sighted-at}
 use Rattle.model.proofs.Agreement.Restage.{Restaged, restages}
-
--- the record after the read of register r
-abbrev pub looked : {F : Type 0} → Order F → F → Turn → ℕ → F → ℕ → Seen F → Register F → Station F
-looked o v t c x p a r = active v (reading t c x (p + 1) (see o t a r))
 
 module _ {F : Type 0} (o : Order F) (sameIs : (x y : F) → o .same x y ≡ true → x ≡ y) where
   module _ (n : ℕ) {f : ℕ → Cell F} (i : ℕ) (v : F) (t : Turn) (c : ℕ) (x : F) (p : ℕ) (a : Seen F)

@@ -7,7 +7,7 @@ use Rattle.model.specs.Layout.{stationOf}
 use Rattle.model.specs.AnyList.{Call, called, after, Allowed, AllAllowed, Some, Proposes, Steps}
 use Rattle.model.proofs.Basics.Tests.{impossible}
 use Rattle.model.proofs.Listing.Collect.{Filled}
-use Rattle.model.proofs.Bridge.Lists.{Held, Keeps, changed, held-along}
+use Rattle.model.proofs.Bridge.Lists.{Held, Keeps, ready, changed, held-along}
 use Rattle.model.proofs.Bridge.Along.{mOf, Along, stays, starts, goes, along}
 
 pub absurd-idle : {X : Type 0} {v : Figure} {s : Stage Figure} {z : Station Figure} → z ≡ idle → z ≡ active v s → X
@@ -21,7 +21,7 @@ same-stage p q = cc
 
 module _ (n K j : ℕ) (own : j < n) where
   here : (c : Call) (b : List ℕ) → Held n K b → Allowed c b → Along n K c b j
-  here c b h a = along n K c b h (changed n K c b h a) j own
+  here c b h a = along n K c b h (changed n K c b (ready n K b h) a) j own
 
   -- what every call keeps, a list keeps
   kept : (P : List ℕ → Type 0) → ((c : Call) (b : List ℕ) → Along n K c b j → P b → P (called c b)) → Keeps n K P

@@ -1,6 +1,6 @@
 -- A read meets one register at most, so that what a collect has met stays within its position; its end keeps nothing.
 -- Relies on the cases of a read; soundness after a step and the totals of a collect rely on it.
-use Rattle.model.proofs.Kit.{refl, ℕ, _+_, _≤_, arith}
+use Rattle.model.proofs.Kit.{ℕ, _+_, _≤_, arith}
 use Rattle.model.specs.Figure.{Figure, figures}
 use Rattle.model.specs.Listing.{Register, empty, filled, Turn, Seen, reading, active, Move, stay, move}
 use Rattle.model.specs.Filled.{filledIn, metKeptAt}

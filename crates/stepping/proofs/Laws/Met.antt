@@ -9,7 +9,7 @@ use Rattle.model.specs.declared.StepAnswer.{StepAnswer}
 use Rattle.model.specs.declared.StepAnswer.the-variants.{Wrote, Read}
 use Rattle.model.specs.Bytes.{byte}
 use Rattle.model.specs.Figure.{Figure, figures}
-use Rattle.model.specs.Listing.{Register, Turn, Seen, nothing, Stage, writing, reading, has-decided, is-spent, active}
+use Rattle.model.specs.Listing.{Register, Turn, Seen, Stage, writing, reading, has-decided, is-spent, active}
 use Rattle.model.specs.Listing.{Move, stay, move, see}
 use Rattle.model.specs.Listing as listing
 use Rattle.model.specs.Filled.{filledIn, metWith, metKeptAt, reported, report}
