@@ -5,12 +5,15 @@ pub mod WholeSteps
 pub mod SettledAgain
 pub mod Lists
 pub mod OneRecord
+pub mod OwnCount
 pub mod StepCount
 pub mod FilledCount
 pub mod RunCalls
 pub mod Along
 pub mod History
 pub mod Events
+pub mod OneFigure
 pub mod Until
 pub mod InTurn
+pub mod LeftAlone
 pub mod Seats

@@ -32,11 +32,11 @@ use Rattle.model.proofs.Bridge.Seats.{proposalIn, seat, seats, among-is
 -- ---- a fresh board stands for the initial state
 
 module _ (n K : ℕ) where
-  fresh-station : (j : ℕ) → j < n → stationOf n K j (freshBoard n K) ≡ idle
+  pub fresh-station : (j : ℕ) → j < n → stationOf n K j (freshBoard n K) ≡ idle
   unfolding stationOf readRecord recordValue ofPhase
   fresh-station j h = ap station (fresh-zero n K j h)
 
-  fresh-view : view n K (freshBoard n K) ≡ initial
+  pub fresh-view : view n K (freshBoard n K) ≡ initial
   unfolding view initial registerOf registerPart readRegister registerValue
   fresh-view = λ i. record {
     station = λ j. cond-case (λ z. z ≡ idle) (ltb j n) _ idle (λ e. fresh-station j (ltb-true j n e)) (λ e. refl) i;

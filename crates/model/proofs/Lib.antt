@@ -6,10 +6,9 @@ pub mod Listing
 pub mod Calls
 pub mod Agreement
 pub mod Sequential
+pub mod Termination
 pub mod Bridge
 pub mod Demand3
+pub mod LeftRunning
 pub mod Sheet
-pub mod Starred
-pub mod Cards
-pub mod CountBounds
 pub mod FilledRuns

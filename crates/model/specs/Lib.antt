@@ -26,7 +26,5 @@ pub mod AnyList
 pub mod SheetList
 pub mod StepCount
 pub mod FilledCount
-pub mod Starred
-pub mod Cards
-pub mod CountBounds
+pub mod LeftRunning
 pub mod FilledRuns

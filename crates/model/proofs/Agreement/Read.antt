@@ -31,7 +31,7 @@ module _ {F : Type 0} (o : Order F) (sameIs : (x y : F) → o .same x y ≡ true
     mine-before = own-at h is .mine
 
     -- the own register is the one just read, or was read before
-    shows : i < p + 1 → Brought t c x (see o t a there)
+    pub shows : i < p + 1 → Brought t c x (see o t a there)
     shows b = go (ℕ-discrete i p)
       where
         go : Dec (i ≡ p) → Brought t c x (see o t a there)

@@ -1,12 +1,11 @@
 -- The invariant of a state: it holds at the start, and a proposal and a step keep it. Relies on the four kinds of
 -- moves; the theorems on decisions and every run rely on it.
-use Rattle.model.proofs.Kit.{_≡_, true, ℕ, _<_}
-use Rattle.model.specs.Listing.{Order, Stage, idle, active}
-use Rattle.model.proofs.Listing.Going.{Going}
-use Rattle.model.proofs.Agreement.State.{State, initial, proposing, moving}
-use Rattle.model.proofs.Agreement.Cells.{Cell, cells}
+use Rattle.model.proofs.Kit.{_≡_, true, ℕ}
+use Rattle.model.specs.Listing.{Order}
+use Rattle.model.proofs.Agreement.State.{State, initial}
+use Rattle.model.proofs.Agreement.Cells.{cells}
 use Rattle.model.proofs.Agreement.Invariant.{Kept}
-use Rattle.model.proofs.Agreement.Inductive.{Inductive, propose-keeps, move-keeps}
+use Rattle.model.proofs.Agreement.Inductive.{Inductive}
 use Rattle.model.proofs.Agreement.Restage.{proposes-kept}
 use Rattle.model.proofs.Agreement.Read.{read-kept}
 use Rattle.model.proofs.Agreement.Settle.{settle-kept}

@@ -1,9 +1,10 @@
 -- What a write does to a station's own registers, whatever the turn. Relies on the words for registers and on the own
--- clauses; the move that writes relies on it.
+-- clauses; the moves that write rely on it, for each invariant.
 use Rattle.model.proofs.Kit.{_≡_, refl, sym, subst, subst₂, inl, inr, _⊎_, some, ℕ, suc, _<_, arith}
 use Rattle.model.specs.Listing.{adopt, commit, Register, Turn, turnM, turnA, turnB, writing, active, Array, inM}
 use Rattle.model.specs.Listing.{inA, inB, array, entry}
-use Rattle.model.proofs.Agreement.State.{put, sameArray, put-same}
+use Rattle.model.proofs.Basics.Tests.{cond-case}
+use Rattle.model.proofs.Agreement.State.{put, sameArray, array-is, put-same}
 use Rattle.model.proofs.Agreement.Cells.{written, on-put}
 use Rattle.model.proofs.Listing.Collect.{Filled}
 use Rattle.model.proofs.Agreement.Registers.{Says, Marked, Figure, Left, marked-filled, adopt≢commit}
@@ -83,20 +84,22 @@ module _ {F : Type 0} where
         (λ (b : ℕ) (r : Register F). Marked commit r → Says r y → Says (R (inA b)) y)
         (λ w s. subst (λ (z : F). Says (R (inA c)) z) s m) (λ b z. h b y) k
 
-    -- what holds of x at c, and of every figure before, holds of every figure after the write
+    -- what holds of the entry, and of every register before, holds of every register after the write
+    pub wrote-each : (P : Array → Register F → Type 0) (t : Turn) → P (array t c) (entry t c x)
+        → ((a : Array) → P a (R a)) → (a : Array) → P a (wrote t c x R a)
+    unfolding wrote written
+    wrote-each P t e h a = cond-case (P a) (sameArray (array t c) a) _ _
+        (λ q. subst (λ (b : Array). P b (entry t c x)) (array-is (array t c) a q) e) (λ q. h a)
+
+    entry-stored : (P : ℕ → F → Type 0) → P c x → (t : Turn) (k : ℕ) (y : F)
+        → Figure (array t c) (entry t c x) k y → P k y
+    unfolding array entry
+    entry-stored P b turnM k y p = subst₂ P (p .0) (p .1) b
+    entry-stored P b turnA k y p = subst₂ P (p .0) (p .1) b
+    entry-stored P b (turnB f) k y p = subst₂ P (p .0) (p .1) b
+
+    -- and so of the figures: what holds of x at c, and of every figure before
     pub wrote-stored : (P : ℕ → F → Type 0) → P c x → ((a : Array) (k : ℕ) (y : F) → Figure a (R a) k y → P k y)
         → (t : Turn) (a : Array) (k : ℕ) (y : F) → Figure a (wrote t c x R a) k y → P k y
-    unfolding wrote written sameArray array put entry
-    wrote-stored P b h turnM inM k y p = subst₂ P (p .0) (p .1) b
-    wrote-stored P b h turnM (inA d) k y p = h (inA d) k y p
-    wrote-stored P b h turnM (inB d) k y p = h (inB d) k y p
-    wrote-stored P b h turnA inM k y p = h inM k y p
-    wrote-stored P b h turnA (inA d) k y p = on-put c (entry turnA c x) (λ (e : ℕ). R (inA e))
-        (λ (e : ℕ) (r : Register F). Figure (inA e) r k y → P k y) (λ q. subst₂ P (q .0) (q .1) b)
-        (λ e z. h (inA e) k y) d p
-    wrote-stored P b h turnA (inB d) k y p = h (inB d) k y p
-    wrote-stored P b h (turnB f) inM k y p = h inM k y p
-    wrote-stored P b h (turnB f) (inA d) k y p = h (inA d) k y p
-    wrote-stored P b h (turnB f) (inB d) k y p = on-put c (entry (turnB f) c x) (λ (e : ℕ). R (inB e))
-        (λ (e : ℕ) (r : Register F). Figure (inB e) r k y → P k y) (λ q. subst₂ P (q .0) (q .1) b)
-        (λ e z. h (inB e) k y) d p
+    wrote-stored P b h t =
+        wrote-each (λ a r. (k : ℕ) (y : F) → Figure a r k y → P k y) t (entry-stored P b t) h

@@ -38,7 +38,7 @@ number i p = omega arith
 -- one station's record was put into the state
 module _ (n K : ℕ) (b d : List ℕ) (i : ℕ) (z : Station Figure) (g : Array → ℕ → Register Figure)
     (e : view n K d ≡ (record { station = put i z (view n K b .station); register = g })) where
-  own-put : i < n → stationOf n K i d ≡ z
+  pub own-put : i < n → stationOf n K i d ≡ z
   own-put h = sym (view-station n K d i h) ∙ rw e (put-same i z _)
 
   other-put : (j : ℕ) → j < n → (i ≡ j → ⊥) → stationOf n K j d ≡ stationOf n K j b

@@ -14,7 +14,7 @@ use Rattle.model.proofs.Calls.Refusals.{Board, refusal-case}
 use Rattle.model.proofs.Calls.Refused.{lay-refused, propose-refused, step-refused}
 use Rattle.model.proofs.Agreement.Cells.{Cell, cells}
 use Rattle.model.proofs.Agreement.Inductive.{Inductive, propose-keeps, move-keeps}
-use Rattle.model.proofs.Agreement.StateCalls.{Inv, Any, inductive}
+use Rattle.model.proofs.Agreement.StateCalls.{Inv, inductive}
 use Rattle.model.proofs.Bridge.View.{view, view-station}
 use Rattle.model.proofs.Bridge.Single.{Ready, step-ready, propose-ready, ProposeSim, propose-sim, StepSim}
 use Rattle.model.proofs.Bridge.Single.{step-sim}
@@ -57,10 +57,11 @@ module _ {Q : Figure → Type 0} {P : (ℕ → Cell Figure) → Type 0} (n K : �
       → P (cells (view n K b)) → P (cells (view n K (called c b)))
   along-call c b (same e) q h = rw e h
   along-call c b (takes i v p s) q h =
-      rw (s .after) (propose-keeps k (view n K b) (i - 1) v (s .own) (view-station n K b (i - 1) (s .own) ∙ s .rests) (q i v p) h)
+      let stands = view-station n K b (i - 1) (s .own) ∙ s .rests in
+      rw (s .after) (propose-keeps k (view n K b) (i - 1) v (s .own) stands (q i v p) h)
   along-call c b (moves i p s eb) q h =
-      rw (eb, s .after)
-      (move-keeps k (view n K b) (i - 1) (s .own) (view-station n K b (i - 1) (s .own) ∙ s .stands) (s .goes) h)
+      let stands = view-station n K b (i - 1) (s .own) ∙ s .stands in
+      rw (eb, s .after) (move-keeps k (view n K b) (i - 1) (s .own) stands (s .goes) h)
 
   pub along-list : (cs : List Call) (b : List ℕ) → Ready n K b → AllAllowed cs b
       → ((i : ℕ) (v : Figure) → Some (Proposes i v) cs b → Q v) → P (cells (view n K b))

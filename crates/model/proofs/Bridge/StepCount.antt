@@ -1,95 +1,67 @@
 -- Along a list of calls a station's count grows by its accepted steps, and by nothing else.
--- Relies on StepsTaken and OneRecord; it proves the claims of specs/StepCount.antt.
-use Rattle.model.proofs.Kit.{_≡_, refl, sym, ap, _∙_, subst₂, true, _&&_, cond, List, [], _∷_, none, ℕ}
-use Rattle.model.proofs.Kit.{_+_, _-_, _≤_, _<_, eqb, eq-eqb, ne-eqb, ℕ-discrete, length, map, arith}
+-- Relies on StepsTaken and OwnCount; it proves the claims of specs/StepCount.antt.
+use Rattle.model.proofs.Kit.{_≡_, refl, sym, ap, _∙_, subst₂, List, [], _∷_, none, ℕ}
+use Rattle.model.proofs.Kit.{_+_, _-_, _≤_, _<_, length, map, arith}
 use Rattle.model.specs.Bytes.{number, part}
 use Rattle.model.specs.Figure.{Figure}
-use Rattle.model.specs.Listing.{accepted}
-use Rattle.model.specs.Layout.{freshBoard, recordOf, readRecord, fieldsOf}
+use Rattle.model.specs.Layout.{freshBoard, recordOf, readRecord}
 use Rattle.model.specs.Calls.{After, RunAnswer, stations, islands, boardRefusal, stepsTaken, lay}
 use Rattle.model.specs.Calls.{propose, step, run}
 use Rattle.model.specs.Rounds.{RoundsAnswer, roundsRefusal, roundsSteps, playedTo, rounds}
 use Rattle.model.specs.Runs as runs
-use Rattle.model.specs.AnyList.{Call, laying, proposing, stepping, called, after, Allowed, AllAllowed}
+use Rattle.model.specs.AnyList.{Call, proposing, stepping, called, after, AllAllowed}
 use Rattle.model.specs.Proposals.{Proposal, AllFit, proposeAll}
 use Rattle.model.specs.SheetList.{singles}
 use Rattle.model.specs.Claims.{Passes}
 use Rattle.model.specs.StepCount.{stepsBy, stepsIn, StepCount}
-use Rattle.model.proofs.Basics.Tests.{by-test}
 use Rattle.model.proofs.Board.Codec.{Fits}
 use Rattle.model.proofs.Calls.Refusals.{Board, board-of, laid-fresh}
-use Rattle.model.proofs.Calls.Refused.{lay-refused, step-refused}
 use Rattle.model.proofs.Calls.StepsTaken.{proposed-on, proposed-none, idle-none, access-steps}
 use Rattle.model.proofs.Calls.StepsTaken.{steps-most, steps-few}
 use Rattle.model.proofs.Calls.CallsKeep.{good-stage}
 use Rattle.model.proofs.Board.Fresh.{fresh-zero}
 use Rattle.model.proofs.Bridge.Single.{Ready, by-head, propose-ready}
-use Rattle.model.proofs.Bridge.OneRecord.{at-head, laid-ready, sound-here, own-step, other-step, by-proposal}
-use Rattle.model.proofs.Bridge.Lists.{ready-along}
+use Rattle.model.proofs.Bridge.OneRecord.{at-head, laid-ready, sound-here, own-step}
+use Rattle.model.proofs.Bridge.OwnCount.{Counts, list-adds}
 use Rattle.model.proofs.Bridge.RunCalls.{ran-calls, steps-allowed, singles-leave, singles-allowed}
 use Rattle.model.proofs.Calls.Runs.{runs-count}
 use Rattle.model.proofs.Calls.Rounds.{rounds-pass}
 use Rattle.model.proofs.Calls.Proposals.{together-case}
 
--- the steps that station index j has taken
-abbrev taken : (n K j : ℕ) → List ℕ → ℕ
-taken n K j b = fieldsOf n K j b .steps
+-- the steps that a record says were taken, and those of station index j
+abbrev stepsOf : List ℕ → ℕ
+stepsOf r = readRecord r .steps
 
-same-record : (n K j : ℕ) (b d : List ℕ) → recordOf n K j d ≡ recordOf n K j b → taken n K j d ≡ taken n K j b
-same-record n K j b d e = ap (λ (r : List ℕ). readRecord r .steps) e
+abbrev taken : (n K j : ℕ) → List ℕ → ℕ
+taken n K j b = stepsOf (recordOf n K j b)
 
 -- no station of a fresh board has taken a step
 none-fresh : (n K j : ℕ) → j < n → taken n K j (freshBoard n K) ≡ 0
 unfolding readRecord number part
-none-fresh n K j own = ap (λ (r : List ℕ). readRecord r .steps) (fresh-zero n K j own)
+none-fresh n K j own = ap stepsOf (fresh-zero n K j own)
 
 -- One call on a sound board of n and K, and the count of station number i.
-module _ (n K i : ℕ) (low : 1 ≤ i) (high : i ≤ n) (b : List ℕ) (r : Ready n K b) where
-  -- a proposal leaves the count of every station: one that proposes had none
-  proposing-leaves : (k : ℕ) (v : Figure) → taken n K (i - 1) (propose k v b .bytes) ≡ taken n K (i - 1) b
-  proposing-leaves k v =
-      by-proposal n K i b r low high (λ d. taken n K (i - 1) d ≡ taken n K (i - 1) b) (same-record n K (i - 1) b) k v
-      (λ a. by-head (λ m L. taken m L (i - 1) (propose i v b .bytes) ≡ taken m L (i - 1) b) r
-      (proposed-none i v b (r .board) a ∙ sym (idle-none i v b (r .board) a)))
+module _ (n K i : ℕ) (low : 1 ≤ i) (high : i ≤ n) where
+  few : (b : List ℕ) → Ready n K b → taken n K (i - 1) b ≤ 3264
+  few b r = by-head (λ m L. taken m L (i - 1) b ≤ 3264) r (steps-few b (r .board) (i - 1) (omega (arith, r .isN)))
 
-  few : taken n K (i - 1) b ≤ 3264
-  few = by-head (λ m L. taken m L (i - 1) b ≤ 3264) r (steps-few b (r .board) (i - 1) (omega (arith, r .isN)))
+  -- a proposal leaves the count: one that proposes had none; and an accepted step of the station adds one
+  counts : (b : List ℕ) → Ready n K b → Counts n K i low high stepsOf b
+  counts b r = record {
+    proposes = λ v fits a.
+        by-head (λ m L. taken m L (i - 1) (propose i v b .bytes) ≡ taken m L (i - 1) b) r
+        (proposed-none i v b (r .board) a ∙ sym (idle-none i v b (r .board) a));
+    steps = λ a.
+        let s = own-step n K i b r a in
+        rw (s .is)
+        (access-steps n K b (sound-here n K i b r .len) (i - 1) (s .own) (s .proposal) (s .stage)
+        (good-stage n K (s .proposal) (s .stage) (s .station .good)) (s .goes) (omega (arith, few b r)));
+  }
 
-  -- an accepted step of the station itself
-  own-adds : accepted (step i b .answer .did) ≡ true → taken n K (i - 1) (step i b .bytes) ≡ taken n K (i - 1) b + 1
-  own-adds a =
-      let s = own-step n K i b r a in
-      rw (s .is)
-      (access-steps n K b (sound-here n K i b r .len) (i - 1) (s .own) (s .proposal) (s .stage)
-      (good-stage n K (s .proposal) (s .stage) (s .station .good)) (s .goes) (omega (arith, few)))
-
-  stepping-adds : (k : ℕ) → taken n K (i - 1) (step k b .bytes) ≡ taken n K (i - 1) b + stepsBy i (stepping k) b
-  unfolding stepsBy
-  stepping-adds k = go (ℕ-discrete i k)
-    where
-      go : Dec (i ≡ k)
-          → taken n K (i - 1) (step k b .bytes)
-          ≡ taken n K (i - 1) b + cond (eqb i k && accepted (step k b .answer .did)) 1 0
-      go (yes e) =
-          rw (← e, eq-eqb i i refl)
-          (by-test (accepted (step i b .answer .did)) (λ a. rw a (own-adds a))
-          (λ a. rw (step-refused i b a, a) (omega arith)))
-      go (no f) =
-          rw (ne-eqb i k f) (same-record n K (i - 1) b _ (other-step n K i b r low high k f) ∙ omega arith)
-
-  call-adds : (c : Call) → Allowed c b → taken n K (i - 1) (called c b) ≡ taken n K (i - 1) b + stepsBy i c b
-  unfolding called Allowed stepsBy
-  call-adds (laying m L) a = rw (lay-refused m L b (a .0) (a .1)) (omega arith)
-  call-adds (proposing k v) a = proposing-leaves k v ∙ omega arith
-  call-adds (stepping k) a = stepping-adds k
-
-list-adds : (n K i : ℕ) → 1 ≤ i → i ≤ n → (cs : List Call) (b : List ℕ) → Ready n K b → AllAllowed cs b
-    → (taken n K (i - 1) (after cs b) ≡ taken n K (i - 1) b + stepsIn i cs b) × Ready n K (after cs b)
-unfolding after AllAllowed stepsIn
-list-adds n K i low high [] b r a = (omega arith, r)
-list-adds n K i low high (c ∷ cs) b r a =
-    let rest = list-adds n K i low high cs (called c b) (ready-along n K c b r (a .0)) (a .1) in
-    (omega (arith, rest .0, call-adds n K i low high b r c (a .0)), rest .1)
+  taken-adds : (cs : List Call) (b : List ℕ) → Ready n K b → AllAllowed cs b
+      → (taken n K (i - 1) (after cs b) ≡ taken n K (i - 1) b + stepsIn i cs b) × Ready n K (after cs b)
+  taken-adds cs b r a =
+      list-adds n K i low high stepsOf (λ cs b. Unit {0}) (λ c cs b r a p. (counts b r, tt)) cs b r a tt
 
 -- ---- in the words of the claim
 
@@ -98,7 +70,7 @@ after-ready : (n K i : ℕ) → 1 ≤ i → i ≤ n → (cs : List Call) (b : Li
     → stepsTaken i (after cs b) ≡ taken n K (i - 1) b + stepsIn i cs b
 unfolding stepsTaken
 after-ready n K i low high cs b r a =
-    let along = list-adds n K i low high cs b r a in
+    let along = taken-adds n K i low high cs b r a in
     subst₂ (λ m L. taken m L (i - 1) (after cs b) ≡ taken n K (i - 1) b + stepsIn i cs b) (sym (along .1 .isN))
     (sym (along .1 .isK)) (along .0)
 

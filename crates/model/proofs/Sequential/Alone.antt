@@ -51,21 +51,21 @@ module _ {F : Type 0} where
         ∙ ap (λ (m : Move F). settle fuel m (putWritten (placeArray s) i (m .written) f)) e
 
     -- a write starts the collect
-    step-write : (fuel : ℕ) (t : Turn) (c : ℕ) (x : F) (f : Registers F)
+    pub step-write : (fuel : ℕ) (t : Turn) (c : ℕ) (x : F) (f : Registers F)
         → stepUntil o n K (suc fuel) i (alone i v others (writing t c x) f)
         ≡ stepUntil o n K fuel i (alone i v others (reading t c x 0 nothing) (write (array t c) i (entry t c x) f))
     unfolding settle goOn ends outcome move placeArray
     step-write fuel t c x f = one-step fuel (writing t c x) f _ refl
 
     module _ (t : Turn) (c : ℕ) (x : F) (f : Registers F) where
-      step-read : (fuel p : ℕ) (a : Seen F) → suc p < n
+      pub step-read : (fuel p : ℕ) (a : Seen F) → suc p < n
           → stepUntil o n K (suc fuel) i (alone i v others (reading t c x p a) f)
           ≡ stepUntil o n K fuel i (alone i v others (reading t c x (suc p) (see o t a (f (array t c) p))) f)
       unfolding settle goOn ends outcome placeArray placeColumn stay putWritten
       step-read fuel p a l = one-step fuel (reading t c x p a) f _
           (rw add-one at (read-on o n K t c x p a (f (array t c) p) (omega arith)))
 
-      step-last : (fuel p : ℕ) (a : Seen F) → suc p ≡ n
+      pub step-last : (fuel p : ℕ) (a : Seen F) → suc p ≡ n
           → stepUntil o n K (suc fuel) i (alone i v others (reading t c x p a) f)
           ≡ settle fuel (ended K t c x (see o t a (f (array t c) p))) f
       unfolding placeArray placeColumn putWritten

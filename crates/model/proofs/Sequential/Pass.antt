@@ -22,7 +22,7 @@ marks-adopt K c first k y h = absurd h
 marks-adopt K c second k y h = refl
 marks-adopt K c third k y h = refl
 
-goes-on : {F : Type 0} (K c : ℕ) (x : F) → c + 1 < K
+pub goes-on : {F : Type 0} (K c : ℕ) (x : F) → c + 1 < K
     → onward K c x ≡ stay (writing turnM (c + 1) x) (adopted (c + 1) x)
 unfolding onward
 goes-on K c x l = rw (lt-ltb (c + 1) K l)

@@ -1,35 +1,35 @@
 -- Each wrong card differs from `step` on its board: both are computed, and one byte of what they leave differs.
 -- Relies on the definitions alone.
 use Rattle.model.proofs.Kit.{_≡_, refl, sym, ap, _∙_, Bool, true, false, _&&_, not, List, [], _∷_, ℕ, eqb, T}
 use Rattle.model.proofs.Kit.{eqb-refl}
 use Rattle.model.specs.Bytes.{byte}
 use Rattle.model.specs.Figure.{Figure}
 use Rattle.model.specs.Filled.{Report, filledIn, metWith, metKeptAt, reported}
 use Rattle.model.specs.Calls.{After, RunAnswer, ran, notRun}
 use Rattle.model.specs.Bytes.{number, digits, part, splice, zeros, every, implies}
 use Rattle.model.specs.Figure.{figure, figureBytes, sameFigure, above, figures}
 use Rattle.model.specs.Listing.{array, placeArray, placeColumn, accepted, outcome, entry, proposed, stay, onward}
 use Rattle.model.specs.Listing.{finish, ended, larger, pairAbove, add, see, move, flagOf, flagNumber}
 use Rattle.model.specs.Layout.{boardLength, rowOf, registerAt, recordAt, freshBoard, readRegister, layRegister}
 use Rattle.model.specs.Layout.{registerFields, registerValue, seenNumber}
 use Rattle.model.specs.Layout.{bestIsland, bestFigure, seenOf, writePhase, flagByte, readRecord, layRecord}
 use Rattle.model.specs.Layout.{fields, recordFields, changed, recordValue, writingOf, readingOf}
 use Rattle.model.specs.Layout.{ofPhase, registerOf, recordOf, stationOf}
 use Rattle.model.specs.Sound.{headSound, registerSound, arraySound, registersSound, collecting, phaseKnown}
 use Rattle.model.specs.Sound.{positionInside, islandInside}
 use Rattle.model.specs.Sound.{bestInside, flagKnown, restZero, idleZero, collectZero, bestIslandZero, bestZero}
 use Rattle.model.specs.Sound.{seenKnown, sameRegister}
 use Rattle.model.specs.Sound.{ownWritten, ownSeen, ownPassed, turnsBefore, presentPass, islandOf, mostSteps}
 use Rattle.model.specs.Sound.{stepsKept, mostMet, metKept, fieldsSound, recordSound, sound}
 use Rattle.model.specs.Calls.{unless, ranges, shapeRefusal, stations, islands, boardRefusal, stationRefusal}
 use Rattle.model.specs.Calls.{stationAt, unlessRefused, lay, putRecord}
 use Rattle.model.specs.Calls.{putRegister, notIdle, propose, notGoing, access, stepped, stepOn, step, ranFrom}
 use Rattle.model.specs.Calls.{run}
 use Rattle.model.specs.Runs.{after}
-use Rattle.model.specs.Cards.{ShutOut, Row, AllDiffer, rows, movedBy, by, listing, ending, refusesAll, leavesIdle}
-use Rattle.model.specs.Cards.{zeroAt, seeAll, wholeAtFirst, spentAt, wholeInOne, oldAt, ownIslandAt, counted}
-use Rattle.model.specs.Cards.{emptiesCounted, ownLargestAt, presentAt, proposeFrom, boardAfter}
+use Rattle.tables.specs.Cards.{ShutOut, Row, AllDiffer, rows, movedBy, by, listing, ending, refusesAll, leavesIdle}
+use Rattle.tables.specs.Cards.{zeroAt, seeAll, wholeAtFirst, spentAt, wholeInOne, oldAt, ownIslandAt, counted}
+use Rattle.tables.specs.Cards.{emptiesCounted, ownLargestAt, presentAt, proposeFrom, boardAfter}
 use Rattle.model.proofs.Basics.Tests.{clash, T-true, T-false, and-l, and-r}
 
 unlike : {A : Type 0} (look : A → ℕ) (a b : A) → eqb (look a) (look b) ≡ false → a ≡ b → ⊥
 unlike look a b e p =
