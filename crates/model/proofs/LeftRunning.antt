@@ -9,7 +9,8 @@ use Rattle.model.specs.Layout.{freshBoard}
 use Rattle.model.specs.Calls.{propose}
 use Rattle.model.specs.AnyList as call
 use Rattle.model.specs.AnyList.{Call, called, Allowed, AllAllowed, Some, Proposes, after, until}
-use Rattle.model.specs.LeftRunning.{UpTo, RoomAbove, NobodyStepped, Terminates, LeftRunning, Single, OnFresh}
+use Rattle.model.specs.LeftRunning.{GoingOn, DecidesWithin, UpTo, RoomAbove, NobodyStepped, Terminates}
+use Rattle.model.specs.LeftRunning.{LeftRunning, Single, OnFresh}
 use Rattle.model.proofs.Board.Codec.{Fits}
 use Rattle.model.proofs.Board.Places.{InBoard}
 use Rattle.model.proofs.Basics.Numbers.{same-law}
@@ -24,7 +25,7 @@ use Rattle.model.proofs.Bridge.Until.{proposes}
 use Rattle.model.proofs.Bridge.Lists.{Held, ready, held-after, along-list}
 use Rattle.model.proofs.Bridge.Events.{proposes-end}
 use Rattle.model.proofs.Bridge.OneFigure.{one-figure}
-use Rattle.model.proofs.Bridge.LeftAlone.{decides-alone, decides-first}
+use Rattle.model.proofs.Bridge.LeftAlone.{decides-alone, decides-first, run-decides}
 use Rattle.model.proofs.Demand3.{fresh-station, fresh-view, fresh-held}
 
 module _ (n K : ℕ) (lent : List ℕ) (shape : Shape n K lent) (cs : List Call) (a : AllAllowed cs (freshBoard n K)) where
@@ -42,9 +43,18 @@ module _ (n K : ℕ) (lent : List ℕ) (shape : Shape n K lent) (cs : List Call)
       along-list n K (climbs-inductive figures same-law n K) cs (freshBoard n K) (ready n K _ start) a (λ i v p. tt)
       (rw (fresh-view n K) (inv-initial n .clauses, climbs-initial))
 
+  decides-within : RoomAbove end → (i : ℕ) → GoingOn i end → (steps : ℕ) → 9 * (n + 1) ≤ steps
+      → DecidesWithin steps i end
+  decides-within = decides-alone n K end (ready n K end end-held) (shape .islands-low) end-safe
+
   fresh-terminates : Terminates n (freshBoard n K) cs
+  unfolding DecidesWithin
   fresh-terminates = record {
-    alone = decides-alone n K end (ready n K end end-held) (shape .islands-low) end-safe;
+    alone = decides-within;
+    run-alone = λ q i g.
+        let (k, v, e) = decides-within q i g (9 * (n + 1)) (omega arith) in
+        let (j, d) = run-decides n K end end-held i k v (9 * (n + 1)) (omega (arith, shape .stations-high)) e in
+        (j, v, d);
     nobody-stepped = λ q i v p steps enough.
         let s = proposes-end n K i v cs (freshBoard n K) start a p in
         decides-first n K end (ready n K end end-held) (shape .islands-low) end-safe q i (s .positive) (s .own) v

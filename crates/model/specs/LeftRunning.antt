@@ -1,7 +1,7 @@
 -- Six of 02 on lists of calls: a station that is left alone gets to a decision, and with one figure proposed by all
 -- each decides on island 0, whoever else moves. The field's term is termination.
 -- Relies on the calls and on the lists of demand 3; proofs/LeftRunning.antt proves `LeftRunning` for every list.
-use Rattle.model.specs.Kit.{List, none, ℕ, _+_, _*_, _-_, _≤_}
+use Rattle.model.specs.Kit.{List, none, ℕ, _+_, _*_, _-_, _≤_, replicate}
 use mathlib.Core.Path.{_≡_}
 use mir.Syntax.{w32}
 use mir.Val.{SFits}
@@ -9,7 +9,7 @@ use Prim.Native.Nat.{_<_}
 use Rattle.model.specs.Figure.{Figure}
 use Rattle.model.specs.Listing.{Register, empty, filled, inM, decided, goes-on, outcome}
 use Rattle.model.specs.Layout.{registerOf}
-use Rattle.model.specs.Calls.{stations, islands, stationAt, notGoing, lay, propose, step}
+use Rattle.model.specs.Calls.{stations, islands, stationAt, notGoing, lay, propose, step, run}
 use Rattle.model.specs.Standing.{stands-decided, standingOf}
 use Rattle.model.specs.AnyList.{Call, after, AllAllowed, Some, Proposes, Decides, until}
 use Rattle.model.specs.StepCount.{stepsIn}
@@ -67,6 +67,10 @@ pub record Terminates (n : ℕ) (b : List ℕ) (cs : List Call) : Type 0 where
   -- "On a board reached from a fresh one, if the highest island in m is at most K − 2 or m is empty"
   pub alone : RoomAbove (after cs b) → (i : ℕ) → GoingOn i (after cs b) → (steps : ℕ) → 9 * (n + 1) ≤ steps
       → DecidesWithin steps i (after cs b)
+  -- and so a run of that many steps of the station leaves it standing decided
+  pub run-alone : RoomAbove (after cs b) → (i : ℕ) → GoingOn i (after cs b)
+      → (k : ℕ) × (v : Figure)
+      × (standingOf (stationAt i (run (replicate (9 * (n + 1)) i) (after cs b) .bytes)) ≡ stands-decided k v)
   -- Where m is empty a third of it is enough, and the figure is the station's own.
   pub nobody-stepped : NobodyStepped (after cs b) → (i : ℕ) (v : Figure) → Some (Proposes i v) cs b
       → (steps : ℕ) → 3 * (n + 1) ≤ steps → until steps i (after cs b) .answer .did ≡ decided 0 v

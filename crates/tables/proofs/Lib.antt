@@ -2,3 +2,4 @@
 pub mod Starred
 pub mod Cards
 pub mod CountBounds
+pub mod LeftRuns

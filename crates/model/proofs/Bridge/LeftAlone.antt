@@ -3,14 +3,16 @@
 -- Relies on lists of calls, on a station's run and on what is shown of it on states; it is the first claim of
 -- specs/LeftRunning.antt.
 use Rattle.model.proofs.Kit.{_≡_, refl, sym, _∙_, subst, inl, inr, _⊎_, List, none, ℕ, _+_, _-_, _*_, _≤_, _<_}
-use Rattle.model.proofs.Kit.{le-ltb, arith}
+use Rattle.model.proofs.Kit.{zero, suc, ap, map, replicate, length-replicate, le-ltb, arith}
 use native.Mathlib.Decide.{decLe}
 use Rattle.model.specs.Figure.{Figure, figures}
 use Rattle.model.specs.Listing.{Register, empty, filled, Stage, writing, reading, has-decided, is-spent, Station}
 use Rattle.model.specs.Listing.{idle, active, inM, decided}
 use Rattle.model.specs.Layout.{registerOf, stationOf}
-use Rattle.model.specs.Calls.{stations, islands, stationAt, notGoing}
-use Rattle.model.specs.AnyList.{until}
+use Rattle.model.specs.Calls.{After, RunAnswer, step, run, stations, islands, stationAt, notGoing}
+use Rattle.model.specs.AnyList.{stepping, called, Some, Decides, ends, until}
+use Rattle.model.specs.Runs as runs
+use Rattle.model.specs.Standing.{stands-decided, standingOf}
 use Rattle.model.specs.LeftRunning.{UpTo, RoomAbove, NobodyStepped, GoingOn, DecidesWithin}
 use Rattle.model.proofs.Basics.Numbers.{same-law, self-law}
 use Rattle.model.proofs.Board.Places.{InBoard}
@@ -18,7 +20,9 @@ use Rattle.model.proofs.Board.Good.{GoodStage}
 use Rattle.model.proofs.Board.Values.{SoundStation, sound-station}
 use Rattle.model.proofs.Listing.Going.{Going}
 use Rattle.model.proofs.Calls.CallsKeep.{going-of, good-stage}
-use Rattle.model.proofs.Calls.Refusals.{some-none}
+use Rattle.model.proofs.Basics.Tests.{impossible, by-test}
+use Rattle.model.proofs.Calls.Refusals.{some-none, board-passes}
+use Rattle.model.proofs.Calls.Runs.{runs-count}
 use Rattle.model.proofs.Agreement.State.{State}
 use Rattle.model.proofs.Agreement.Cells.{cells}
 use Rattle.model.proofs.Agreement.Registers.{Holds}
@@ -29,6 +33,9 @@ use Rattle.model.proofs.Termination.LeftAlone.{Highest, highest, Before
 use Rattle.model.proofs.Bridge.View.{inside, view, view-station, view-register}
 use Rattle.model.proofs.Bridge.Single.{Ready}
 use Rattle.model.proofs.Bridge.OneRecord.{sound-here}
+use Rattle.model.proofs.Bridge.Lists.{Held, held-after}
+use Rattle.model.proofs.Bridge.Events.{decides-end}
+use Rattle.model.proofs.Bridge.RunCalls.{ran-calls, steps-allowed}
 use Rattle.model.proofs.Bridge.Until.{until-sim}
 
 -- ---- a sound board of n and K whose state keeps the invariants
@@ -127,3 +134,27 @@ module _ (n K : ℕ) (b : List ℕ) (r : Ready n K b) where
         let says = state.nobody-stepped figures same-law self-law n K (i - 1) own (omega arith) st h blank v s
         (view-station n K b (i - 1) own ∙ e) steps enough in
         until-sim n K i low own steps b r 0 v says .says ∙ says
+
+-- ---- a run of the station's steps, to its end
+
+-- a decision that the station comes to is one of the list of its steps
+until-decides : (i k : ℕ) (v : Figure) (fuel : ℕ) (b : List ℕ) → until fuel i b .answer .did ≡ decided k v
+    → Some (Decides i v) (map stepping (replicate fuel i)) b
+unfolding until Some Decides called
+until-decides i k v zero b e = impossible (cc)
+until-decides i k v (suc fuel) b e =
+    by-test (ends (step i b .answer .did)) (λ t. inl (refl, (k, rw (t, until) at e)))
+    (λ t. inr (until-decides i k v fuel (step i b .bytes) (rw (t, until) at e)))
+
+pub run-decides : (n K : ℕ) (b : List ℕ) → Held n K b → (i k : ℕ) (v : Figure) (steps : ℕ) → steps ≤ 65536
+    → until steps i b .answer .did ≡ decided k v
+    → (j : ℕ) × (standingOf (stationAt i (run (replicate steps i) b .bytes)) ≡ stands-decided j v)
+unfolding stationAt standingOf runs.RunsCount
+run-decides n K b h i k v steps few e =
+    let is : List ℕ = replicate steps i in
+    let d = decides-end n K i v (map stepping is) b h (steps-allowed is b) (until-decides i k v steps b e) in
+    let held = held-after n K (map stepping is) b h (steps-allowed is b) in
+    let ran = runs-count is b (board-passes b (h .board) none) (rw (length-replicate steps i) few) .0 in (
+      d .island,
+      rw (ap (λ (a : After RunAnswer). a .bytes) ran, ran-calls is b, held .isN, held .isK, d .stands),
+    )
