@@ -25,7 +25,7 @@ use Rattle.model.proofs.Bridge.Until.{proposes}
 use Rattle.model.proofs.Bridge.Lists.{Held, ready, held-after, along-list}
 use Rattle.model.proofs.Bridge.Events.{proposes-end}
 use Rattle.model.proofs.Bridge.OneFigure.{one-figure}
-use Rattle.model.proofs.Bridge.LeftAlone.{decides-alone, decides-first, run-decides}
+use Rattle.model.proofs.Bridge.LeftAlone.{shown-room, decides-alone, decides-first, run-decides}
 use Rattle.model.proofs.Demand3.{fresh-station, fresh-view, fresh-held}
 
 module _ (n K : ℕ) (lent : List ℕ) (shape : Shape n K lent) (cs : List Call) (a : AllAllowed cs (freshBoard n K)) where
@@ -55,6 +55,7 @@ module _ (n K : ℕ) (lent : List ℕ) (shape : Shape n K lent) (cs : List Call)
         let (k, v, e) = decides-within q i g (9 * (n + 1)) (omega arith) in
         let (j, d) = run-decides n K end end-held i k v (9 * (n + 1)) (omega (arith, shape .stations-high)) e in
         (j, v, d);
+    shown-room = shown-room n K end (ready n K end end-held) end-safe;
     nobody-stepped = λ q i v p steps enough.
         let s = proposes-end n K i v cs (freshBoard n K) start a p in
         decides-first n K end (ready n K end end-held) (shape .islands-low) end-safe q i (s .positive) (s .own) v

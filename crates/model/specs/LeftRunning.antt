@@ -1,17 +1,19 @@
 -- Six of 02 on lists of calls: a station that is left alone gets to a decision, and with one figure proposed by all
 -- each decides on island 0, whoever else moves. The field's term is termination.
 -- Relies on the calls and on the lists of demand 3; proofs/LeftRunning.antt proves `LeftRunning` for every list.
-use Rattle.model.specs.Kit.{List, none, ℕ, _+_, _*_, _-_, _≤_, replicate}
+use Rattle.model.specs.Kit.{List, none, ℕ, _+_, _*_, _-_, _≤_, replicate, take}
 use mathlib.Core.Path.{_≡_}
 use mir.Syntax.{w32}
 use mir.Val.{SFits}
 use Prim.Native.Nat.{_<_}
 use Rattle.model.specs.Figure.{Figure}
 use Rattle.model.specs.Listing.{Register, empty, filled, inM, decided, goes-on, outcome}
-use Rattle.model.specs.Layout.{registerOf}
+use Rattle.model.specs.Layout.{boardLength, registerOf}
 use Rattle.model.specs.Calls.{stations, islands, stationAt, notGoing, lay, propose, step, run}
-use Rattle.model.specs.Standing.{stands-decided, standingOf}
+use Rattle.model.specs.Standing.{Standing, stands-idle, stands-going, stands-decided, stands-spent, standingOf}
 use Rattle.model.specs.AnyList.{Call, after, AllAllowed, Some, Proposes, Decides, until}
+use Rattle.model.specs.Sheet.{playBoard}
+use Rattle.model.specs.SheetList.{boardOf, linesCalls, AllStay}
 use Rattle.model.specs.StepCount.{stepsIn}
 
 -- ---- "a going station that alone takes steps decides within 9(n + 1) of them"
@@ -24,6 +26,13 @@ UpTo k (filled f j x) = j ≤ k
 -- "the highest island in m is at most K − 2 or m is empty"
 unfoldable pub RoomAbove : List ℕ → Type 0
 RoomAbove b = (j : ℕ) → j < stations b → UpTo (islands b - 2) (registerOf (stations b) inM j b)
+
+-- a station that stands on no island above k, as `show` tells it; an idle one stands on none
+unfoldable pub StandsUpTo : (k : ℕ) → Standing → Type 0
+StandsUpTo k stands-idle = Unit {0}
+StandsUpTo k (stands-going c x) = c ≤ k
+StandsUpTo k (stands-decided c x) = c ≤ k
+StandsUpTo k (stands-spent c x) = c ≤ k
 
 -- "m is empty": nobody has taken a step
 unfoldable pub NobodyStepped : List ℕ → Type 0
@@ -71,6 +80,9 @@ pub record Terminates (n : ℕ) (b : List ℕ) (cs : List Call) : Type 0 where
   pub run-alone : RoomAbove (after cs b) → (i : ℕ) → GoingOn i (after cs b)
       → (k : ℕ) × (v : Figure)
       × (standingOf (stationAt i (run (replicate (9 * (n + 1)) i) (after cs b) .bytes)) ≡ stands-decided k v)
+  -- That there is room can be seen without a look at m: where every station stands up to island K − 2, there is.
+  pub shown-room : ((j : ℕ) → 1 ≤ j → j ≤ n
+      → StandsUpTo (islands (after cs b) - 2) (standingOf (stationAt j (after cs b)))) → RoomAbove (after cs b)
   -- Where m is empty a third of it is enough, and the figure is the station's own.
   pub nobody-stepped : NobodyStepped (after cs b) → (i : ℕ) (v : Figure) → Some (Proposes i v) cs b
       → (steps : ℕ) → 3 * (n + 1) ≤ steps → until steps i (after cs b) .answer .did ≡ decided 0 v
@@ -81,6 +93,14 @@ unfoldable pub LeftRunning : Type 0
 LeftRunning =
     (n K : ℕ) (lent : List ℕ) → lay n K lent .answer ≡ none → (cs : List Call) → AllAllowed cs (lay n K lent .bytes)
     → Terminates n (lay n K lent .bytes) cs
+
+-- The same of a sheet, from an accepted `board n K` on: its lines, runs and rounds among them, stand in the list as the
+-- single calls that they make, and leave the board as those do (`SheetDemand3`).
+unfoldable pub SheetLeftRunning : Type 0
+SheetLeftRunning =
+    (laid : ℕ) (m : List ℕ) (n K : ℕ) → lay n K (take (boardLength n K) m) .answer ≡ none
+    → (ls : List (List ℕ)) → AllStay ls (playBoard laid m n K)
+    → Terminates n (boardOf (playBoard laid m n K)) (linesCalls ls (playBoard laid m n K))
 
 -- What users read of it: a fresh board leaves room, and a single station on it decides its own figure on island 0.
 pub record Single (n K : ℕ) (b : List ℕ) : Type 0 where

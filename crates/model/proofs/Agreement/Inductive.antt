@@ -1,5 +1,5 @@
--- Invariants of all cells, said once for each of them: what a proposal, a write, a read and the end of a collect keep is
--- kept by the two calls on a state. The last read of a collect is a read and then the end, and so no case of its own.
+-- Invariants of all cells, said once for each of them: what a proposal, a write, a read and the end of a collect keep
+-- is kept by the two calls on a state. The last read of a collect is a read and then the end, no case of its own.
 -- Relies on cells and on what a write leaves; the invariant of demand 3 and those of termination rely on it.
 use Rattle.model.proofs.Kit.{_≡_, refl, sym, ap, subst, none, some, Option, ℕ, _+_, _≤_, _<_}
 use Rattle.model.specs.Listing.{Order, Register, Turn, Seen, nothing, Stage, writing, reading, has-decided}

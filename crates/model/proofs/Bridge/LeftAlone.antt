@@ -13,7 +13,7 @@ use Rattle.model.specs.Calls.{After, RunAnswer, step, run, stations, isl
 use Rattle.model.specs.AnyList.{stepping, called, Some, Decides, ends, until}
 use Rattle.model.specs.Runs as runs
 use Rattle.model.specs.Standing.{stands-decided, standingOf}
-use Rattle.model.specs.LeftRunning.{UpTo, RoomAbove, NobodyStepped, GoingOn, DecidesWithin}
+use Rattle.model.specs.LeftRunning.{UpTo, StandsUpTo, RoomAbove, NobodyStepped, GoingOn, DecidesWithin}
 use Rattle.model.proofs.Basics.Numbers.{same-law, self-law}
 use Rattle.model.proofs.Board.Places.{InBoard}
 use Rattle.model.proofs.Board.Good.{GoodStage}
@@ -26,7 +26,7 @@ use Rattle.model.proofs.Calls.Runs.{runs-count}
 use Rattle.model.proofs.Agreement.State.{State}
 use Rattle.model.proofs.Agreement.Cells.{cells}
 use Rattle.model.proofs.Agreement.Registers.{Holds}
-use Rattle.model.proofs.Termination.Climbs.{Safe}
+use Rattle.model.proofs.Termination.Climbs.{Safe, islandAt}
 use Rattle.model.proofs.Termination.Passes.{Below, Near}
 use Rattle.model.proofs.Termination.LeftAlone as state
 use Rattle.model.proofs.Termination.LeftAlone.{Highest, highest, Before}
@@ -111,6 +111,27 @@ module _ (n K : ℕ) (b : List ℕ) (r : Ready n K b) where
             goes = going-of v s q;
             before = before s (good-stage n K v s (sound .good));
           }
+
+  -- a station's own m is on no island above the one where it stands
+  own-room : (k : ℕ) (z : Station Figure) (m : Register Figure) → StandsUpTo k (standingOf z)
+      → Holds (λ e j y. j ≤ islandAt z) m → UpTo k m
+  unfolding StandsUpTo standingOf UpTo
+  own-room k z empty s h = tt
+  own-room k idle (filled e j y) s h = omega arith
+  own-room k (active v (writing t c x)) (filled e j y) s h = omega arith
+  own-room k (active v (reading t c x p a)) (filled e j y) s h = omega arith
+  own-room k (active v (has-decided c x)) (filled e j y) s h = omega arith
+  own-room k (active v (is-spent c x)) (filled e j y) s h = omega arith
+
+  pub shown-room : Safe n (cells st)
+      → ((j : ℕ) → 1 ≤ j → j ≤ n → StandsUpTo (islands b - 2) (standingOf (stationAt j b))) → RoomAbove b
+  unfolding RoomAbove stationAt cells InBoard
+  shown-room h q j l =
+      let near : j < n = omega (arith, r .isN) in
+      let index : j + 1 - 1 ≡ j = omega arith in
+      let shown = rw (index, r .isN, r .isK) at (q (j + 1) (omega arith) (omega arith)) in
+      let own = rw (view-station n K b j near, view-register n K b inM j tt near) at (h .1 .behind j .low) in
+      rw (r .isN, r .isK) (own-room (K - 2) (stationOf n K j b) (registerOf n inM j b) shown own)
 
   module _ (two : 2 ≤ K) (h : Safe n (cells st)) where
     pub decides-alone : RoomAbove b → (i : ℕ) → GoingOn i b → (steps : ℕ) → 9 * (n + 1) ≤ steps

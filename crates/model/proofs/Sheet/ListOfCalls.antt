@@ -1,5 +1,5 @@
 -- The lines of a sheet from one accepted `board` to the next are a list of calls as demand 3 means it, and so demand 3
--- holds of them. Relies on EachForm, on what a read line holds, and on the theorem of demand 3.
+-- holds of them, and what is claimed of termination. Relies on EachForm, on what a read line holds, and on both theorems.
 use Rattle.model.proofs.Kit.{_≡_, refl, sym, ap, subst, _∙_, List, [], _∷_, _++_, none, ℕ, _+_, _≤_, length}
 use Rattle.model.proofs.Kit.{take, drop, length-append, arith}
 use lib.Seq.{take-at}
@@ -12,6 +12,8 @@ use Rattle.model.specs.SheetList.{callsOf, playLines, linesCalls, AllSta
 use Rattle.model.proofs.Board.Fresh.{length-fresh}
 use Rattle.model.proofs.Calls.Refusals.{Shape, laid-fresh}
 use Rattle.model.proofs.Bridge.Lists.{Held, held-after}
+use Rattle.model.specs.LeftRunning.{Terminates, LeftRunning, SheetLeftRunning}
+use Rattle.model.proofs.LeftRunning.{left-running}
 use Rattle.model.proofs.Demand3.{fresh-held, demand3}
 use Rattle.model.proofs.Sheet.WrittenBack.{LineStood, line-stood}
 use Rattle.model.proofs.Sheet.PlayedLines.{board-lays}
@@ -141,17 +143,26 @@ module _ (laid : ℕ) (m : List ℕ) (n K : ℕ) (ok : lay n K (take (boardLengt
     held = subst (Held n K) (sym (board-laid ∙ fresh .1)) (fresh-held n K (take (boardLength n K) m) (fresh .0));
   }
 
-  lines-demand3 : (ls : List (List ℕ)) → AllStay ls (playBoard laid m n K)
-      → Demand3 n K (boardOf (playBoard laid m n K)) (linesCalls ls (playBoard laid m n K))
-  unfolding AnyList
-  lines-demand3 ls h =
+  -- what holds of every list of calls from the laid board holds of the lines as theirs
+  pub lines-have : (P : List ℕ → List Call → Type 0)
+      → ((cs : List Call) → AllAllowed cs (lay n K (take (boardLength n K) m) .bytes)
+      → P (lay n K (take (boardLength n K) m) .bytes) cs)
+      → (ls : List (List ℕ)) → AllStay ls (playBoard laid m n K)
+      → P (boardOf (playBoard laid m n K)) (linesCalls ls (playBoard laid m n K))
+  lines-have P f ls h =
       let cs = linesCalls ls (playBoard laid m n K) in
-      subst (λ (b : List ℕ). Demand3 n K b cs) (sym board-laid)
-      (demand3 n K (take (boardLength n K) m) ok cs
-      (subst (AllAllowed cs) board-laid (lines-allowed n K ls (playBoard laid m n K) start h)))
+      subst (λ (b : List ℕ). P b cs) (sym board-laid)
+      (f cs (subst (AllAllowed cs) board-laid (lines-allowed n K ls (playBoard laid m n K) start h)))
 
 -- From an accepted `board` on, the lines are a list of calls, and demand 3 holds of it.
 pub sheet-demand3 : SheetDemand3
-unfolding SheetDemand3
-sheet-demand3 laid m n K ok ls h =
-    (lines-leave n K ls (playBoard laid m n K) (start laid m n K ok) h, lines-demand3 laid m n K ok ls h)
+unfolding SheetDemand3 AnyList
+sheet-demand3 laid m n K ok ls h = (
+  lines-leave n K ls (playBoard laid m n K) (start laid m n K ok) h,
+  lines-have laid m n K ok (Demand3 n K) (demand3 n K _ ok) ls h,
+)
+
+-- and so do the claims on termination
+pub sheet-left-running : SheetLeftRunning
+unfolding SheetLeftRunning LeftRunning
+sheet-left-running laid m n K ok = lines-have laid m n K ok (Terminates n) (left-running n K _ ok)
