@@ -10,8 +10,8 @@ use Rattle.model.specs.FilledRuns.{begun}
 use Rattle.model.specs.LeftRunning.{RoomAbove}
 
 -- Stations 1, 2 and 3 with 15, −20 and 40 on K islands. Station 3 has written to m and read one register there. Behind
--- its back 2 has brought −20 to island 0 and gone no further, so that 1, which met both figures, has adopted −20 and
--- written to m on island 1.
+-- its back 2 has brought −20 to A of island 0 and gone no further, so that 1, which met both figures there, has adopted
+-- −20 and brought it to A of island 1.
 unfoldable pub stale : (K : ℕ) → List ℕ
 stale K =
     after step (begun 3 K (pos 15 ∷ negsuc 19 ∷ pos 40 ∷ []))

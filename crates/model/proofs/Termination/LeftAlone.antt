@@ -65,27 +65,17 @@ module _ {F : Type 0} where
 
   -- ---- what the invariants say of a station by the islands that are reached
 
-  reachA-climbed : (s : Station F) → reachA s ≤ climbed s
-  reachA-climbed idle = omega arith
-  reachA-climbed (active v (writing turnM c x)) = omega arith
-  reachA-climbed (active v (writing turnA c x)) = omega arith
-  reachA-climbed (active v (writing (turnB e) c x)) = omega arith
-  reachA-climbed (active v (reading turnM c x p a)) = omega arith
-  reachA-climbed (active v (reading turnA c x p a)) = omega arith
-  reachA-climbed (active v (reading (turnB e) c x p a)) = omega arith
-  reachA-climbed (active v (has-decided c x)) = omega arith
-  reachA-climbed (active v (is-spent c x)) = omega arith
-
-  reach-climbed : (s : Station F) → reach s ≤ climbed s
-  reach-climbed idle = omega arith
-  reach-climbed (active v (writing turnM c x)) = omega arith
-  reach-climbed (active v (writing turnA c x)) = omega arith
-  reach-climbed (active v (writing (turnB e) c x)) = omega arith
-  reach-climbed (active v (reading turnM c x p a)) = omega arith
-  reach-climbed (active v (reading turnA c x p a)) = omega arith
-  reach-climbed (active v (reading (turnB e) c x p a)) = omega arith
-  reach-climbed (active v (has-decided c x)) = omega arith
-  reach-climbed (active v (is-spent c x)) = omega arith
+  -- a station's A and B are filled on islands that are reached
+  filled-climbed : (s : Station F) → (reachA s ≤ climbed s) × (reach s ≤ climbed s)
+  filled-climbed idle = (omega arith, omega arith)
+  filled-climbed (active v (writing turnM c x)) = (omega arith, omega arith)
+  filled-climbed (active v (writing turnA c x)) = (omega arith, omega arith)
+  filled-climbed (active v (writing (turnB e) c x)) = (omega arith, omega arith)
+  filled-climbed (active v (reading turnM c x p a)) = (omega arith, omega arith)
+  filled-climbed (active v (reading turnA c x p a)) = (omega arith, omega arith)
+  filled-climbed (active v (reading (turnB e) c x p a)) = (omega arith, omega arith)
+  filled-climbed (active v (has-decided c x)) = (omega arith, omega arith)
+  filled-climbed (active v (is-spent c x)) = (omega arith, omega arith)
 
   -- every register of m, also of numbers that are no station, is below top
   module _ (n : ℕ) (st : State F) (h : Safe n (cells st)) (top : ℕ)
@@ -118,9 +108,9 @@ module _ {F : Type 0} where
     clear i = record {
       others = λ j l ne. low j;
       emptyA = λ j l. none-on-top (st .register (inA top) j) (climbed (f j .station)) (climbed-low j)
-          (λ d. omega (arith, h .1 .behind j .early top d, reachA-climbed (f j .station)));
+          (λ d. omega (arith, h .1 .behind j .early top d, filled-climbed (f j .station) .0));
       emptyB = λ j l. none-on-top (st .register (inB top) j) (climbed (f j .station)) (climbed-low j)
-          (λ d. omega (arith, h .0 .own j .early top d, reach-climbed (f j .station)));
+          (λ d. omega (arith, h .0 .own j .early top d, filled-climbed (f j .station) .1));
     }
 
     -- top is right above the station's own island, or above another's
