@@ -26,7 +26,8 @@ use Rattle.model.specs.Calls.{stationAt, unlessRefused, lay, putRecord}
 use Rattle.model.specs.Calls.{putRegister, notIdle, propose, notGoing, access, stepped, stepOn, step, ranFrom}
 use Rattle.model.specs.Calls.{run}
 use Rattle.model.specs.Runs.{after}
-use Rattle.tables.specs.Cards.{ShutOut, Row, AllDiffer, rows, movedBy, by, listing, ending, refusesAll, leavesIdle}
+use Rattle.tables.specs.Cards.{ShutOut, Row, AllDiffer, rows, movedBy, by, listing, ending, refusesAll}
+use Rattle.tables.specs.Cards.{leavesIdle}
 use Rattle.tables.specs.Cards.{zeroAt, seeAll, wholeAtFirst, spentAt, wholeInOne, oldAt, ownIslandAt, counted}
 use Rattle.tables.specs.Cards.{emptiesCounted, ownLargestAt, presentAt, proposeFrom, boardAfter}
 use Rattle.model.proofs.Basics.Tests.{clash, T-true, T-false, and-l, and-r}
@@ -70,7 +71,7 @@ unfolding ShutOut AllDiffer rows at same different taken movedBy by listing endi
     changed recordValue writingOf readingOf ofPhase registerOf recordOf stationOf headSound registerSound arraySound
     registersSound collecting phaseKnown positionInside islandInside bestInside flagKnown restZero idleZero
     collectZero bestIslandZero bestZero seenKnown sameRegister ownWritten ownSeen ownPassed turnsBefore presentPass
-    islandOf mostSteps stepsKept mostMet metKept filledIn metWith metKeptAt reported fieldsSound recordSound sound unless ranges shapeRefusal stations islands
-    boardRefusal stationRefusal stationAt unlessRefused lay
-    putRecord putRegister notIdle propose notGoing access stepped stepOn step ranFrom run
+    islandOf mostSteps stepsKept mostMet metKept filledIn metWith metKeptAt reported fieldsSound recordSound sound
+    unless ranges shapeRefusal stations islands boardRefusal stationRefusal stationAt unlessRefused lay putRecord
+    putRegister notIdle propose notGoing access stepped stepOn step ranFrom run
 shut-out = (all-differ (8 ∷ 8 ∷ 60 ∷ 104 ∷ 88 ∷ 112 ∷ 112 ∷ 164 ∷ 178 ∷ 93 ∷ 93 ∷ []) rows tt, unlike taken _ _ refl)

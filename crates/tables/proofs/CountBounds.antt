@@ -15,15 +15,16 @@ use Rattle.model.specs.Sound.{ownPassed, turnsBefore, presentPass, islandOf, mo
 use Rattle.model.specs.Sound.{metKept, fieldsSound, recordSound, sound}
 use Rattle.model.specs.Calls.{unless, ranges, shapeRefusal, stations, islands, boardRefusal, putRecord}
 use Rattle.model.specs.Calls.{putRegister}
-use Rattle.tables.specs.CountBounds.{CountBounds, row, rows, stepsTested, metTested, hasWritten, counting, restSet}
+use Rattle.tables.specs.CountBounds.{CountBounds, row, rows, stepsTested, metTested, hasWritten, counting}
+use Rattle.tables.specs.CountBounds.{restSet}
 
 pub count-bounds : CountBounds
-unfolding CountBounds rows row stepsTested metTested hasWritten counting restSet number digits part splice zeros every implies figure
-    figureBytes sameFigure above figures array placeArray entry pairAbove flagOf flagNumber boardLength rowOf
-    registerAt recordAt freshBoard readRegister layRegister registerFields registerValue seenNumber bestIsland
+unfolding CountBounds rows row stepsTested metTested hasWritten counting restSet number digits part splice zeros every
+    implies figure figureBytes sameFigure above figures array placeArray entry pairAbove flagOf flagNumber boardLength
+    rowOf registerAt recordAt freshBoard readRegister layRegister registerFields registerValue seenNumber bestIsland
     bestFigure seenOf writePhase flagByte readRecord layRecord changed fields recordFields writingOf readingOf ofPhase
     recordValue registerOf recordOf headSound registerSound arraySound registersSound collecting phaseKnown
     positionInside islandInside bestInside flagKnown restZero idleZero collectZero bestIslandZero bestZero seenKnown
-    sameRegister ownWritten ownSeen ownPassed turnsBefore presentPass islandOf mostSteps stepsKept mostMet metKept fieldsSound
-    recordSound sound unless ranges shapeRefusal stations islands boardRefusal putRecord putRegister
+    sameRegister ownWritten ownSeen ownPassed turnsBefore presentPass islandOf mostSteps stepsKept mostMet metKept
+    fieldsSound recordSound sound unless ranges shapeRefusal stations islands boardRefusal putRecord putRegister
 count-bounds = (refl, refl, refl)

@@ -47,15 +47,15 @@ unfolding Starred Holds rise rows sheet asLines layIn number digits part splice 
     fields recordFields changed recordValue writingOf readingOf ofPhase registerOf recordOf stationOf headSound
     registerSound arraySound registersSound collecting phaseKnown positionInside islandInside bestInside flagKnown
     restZero idleZero collectZero bestIslandZero bestZero seenKnown sameRegister ownWritten ownSeen ownPassed
-    turnsBefore presentPass islandOf mostSteps stepsKept mostMet metKept filledIn metWith metKeptAt reported fieldsSound recordSound sound unless shapeRefusal stations
-    islands boardRefusal stationRefusal stationAt
+    turnsBefore presentPass islandOf mostSteps stepsKept mostMet metKept filledIn metWith metKeptAt reported
+    fieldsSound recordSound sound unless shapeRefusal stations islands boardRefusal stationRefusal stationAt
     unlessRefused lay putRecord putRegister notIdle propose notGoing access stepped stepOn step ranFrom run textFrom
     text decimalIn decimal signed worded standingText standingOf status statuses shownLine shownAs show repeated
     expandItem expand found andThen spaced digit digitsFrom natural numberIn figureIn behind timesIn itemIn itemsIn
     same closing wordRows boardRow proposeRow stepsRow showRow roundsRow rowIn upToStop firstWord wordPlace formIn one
     tooDeep orFour readLine refusedText orRefused laidText proposedText ranText shownText turnedDown playBoard onBoard
-    playForm playReading playLine onFirst endedBy printed playSheet outcome ranges
-    count listIn stationsIn roundIn roundsIn names inTurn roundSteps roundsSteps settled allSettled rising roundKnown
-    roundsKnown roundsRefusal standsDecided decidedOn playedTo rounds playedText pairIn pairsIn singleIn togetherIn
-    named eachOnce firstFault pairsRefusal proposalsRefusal oneByOne proposeAll togetherText
+    playForm playReading playLine onFirst endedBy printed playSheet outcome ranges count listIn stationsIn roundIn
+    roundsIn names inTurn roundSteps roundsSteps settled allSettled rising roundKnown roundsKnown roundsRefusal
+    standsDecided decidedOn playedTo rounds playedText pairIn pairsIn singleIn togetherIn named eachOnce firstFault
+    pairsRefusal proposalsRefusal oneByOne proposeAll togetherText
 starred = (refl, (refl, (refl, (refl, (refl, (refl, (refl, (refl, (refl, (refl, (refl, (refl, (refl, tt)))))))))))))

@@ -1,7 +1,8 @@
 //! Which calls are compared: every kind of call on fresh, reached, sound, damaged and hostile boards, lists of calls and
 //! long runs. `round_batches` has what is made of rounds alone, `pair_batches` what is made of figures put in
 //! together, `count_batches` what is made of counted steps, `filled_batches` what is made of counted registers,
-//! `order_batches` what is made of figures beside each other, `line_batches` the lines of sheets.
+//! `order_batches` what is made of figures beside each other, `left_running` stations that alone go on, `line_batches` the
+//! lines of sheets.
 
 use crate::boards;
 use crate::bytes::length;
@@ -193,7 +194,7 @@ impl Compare<'_> {
         }
     }
 
-    /// Every call on every board that a small laying can come to.
+    /// Every call on every board that a small laying can come to, and every station left alone there.
     pub fn reached(&mut self, k: u8, figures: &[i32]) {
         for board in reach::every_board(k, figures) {
             for station in 0..=figures.len() as u8 + 1 {
@@ -207,6 +208,7 @@ impl Compare<'_> {
             let pairs = [1, 2, 0, 2].map(|station| word((station, 1)));
             (0..=4).for_each(|count| self.once(0, Call::ProposeAll(&pairs[..count]), &board));
             self.once(0, Call::ProposeAll(&pairs[1..]), &board);
+            self.each_alone(0, &board);
         }
     }
 
@@ -215,6 +217,8 @@ impl Compare<'_> {
         self.patterns = Random::new(!seed);
         self.driven(seed);
         self.recounted(seed);
+        self.left_alone(seed);
+        self.of_one_figure(seed);
         for part in 0..8 {
             self.listed_runs(seed.wrapping_mul(64) + part);
             self.runs(seed.wrapping_mul(64) + part);
@@ -253,6 +257,7 @@ impl Compare<'_> {
         self.many_pairs(seed);
         SIZES.iter().for_each(|size| self.every_tail(seed, *size));
         self.most_counted(seed);
+        self.built_runs(seed);
         FILLED_SIZES.iter().for_each(|size| self.every_filled(seed, *size));
         EDGES.iter().for_each(|figure| self.every_pair(seed, *figure));
     }

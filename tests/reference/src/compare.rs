@@ -2,6 +2,7 @@
 //! too. `batches` says which calls are made, on which boards.
 
 use crate::engine::{Engine, Reference};
+use crate::left_running::Ends;
 use crate::lent::Lent;
 use crate::random::Random;
 
@@ -37,6 +38,8 @@ pub struct Counts {
     pub standings: u64,
     pub lines: u64,
     pub words: u64,
+    /// How stations ended that were left alone or propose one figure.
+    pub ends: Ends,
     /// How often each refusal was the answer of a call on a board; at 0 the accepted calls.
     pub refusals: [u64; 21],
 }

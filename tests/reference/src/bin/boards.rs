@@ -1,9 +1,10 @@
 //! boards COUNT SEED: every call of the linked engine beside the reference, on made boards, and every byte that it was
 //! lent. A count of 0 goes on for ever, with a line per thousand batches. Where 256 batches or more are asked for, every
-//! refusal must have been met.
+//! refusal must have been met, and a station that is left alone and spent where no island is left.
 
 use reference::compare::Compare;
 use reference::engine::Linked;
+use reference::left_running::Ends;
 
 fn print(compare: &Compare) {
     let c = &compare.counts;
@@ -12,8 +13,19 @@ fn print(compare: &Compare) {
         "steps compared: {} single, {} in runs; rounds: {}; pairs: {}; totals counted once more: {}",
         c.single_steps, c.run_steps, c.rounds, c.pairs, c.totals
     );
+    print_ends(&c.ends);
     let by: Vec<String> = (7..c.refusals.len()).map(|r| format!("{r}: {}", c.refusals[r])).collect();
     println!("accepted {}; refused 6: {}, {}", c.refusals[0], c.refusals[6], by.join(", "));
+}
+
+fn print_ends(ends: &Ends) {
+    println!(
+        "left alone: {} decide with an island left, {} before any step; with none left {} decide, {} are spent; \
+         {} of one figure",
+        ends.within, ends.untouched, ends.decided_anyway, ends.spent, ends.of_one_figure
+    );
+    let longest: Vec<String> = (1..17).map(|n| format!("{n}: {}", ends.longest[n])).collect();
+    println!("the most steps alone with an island left, by stations: {}", longest.join(", "));
 }
 
 fn main() {
@@ -49,6 +61,10 @@ fn main() {
     let unmet = if count < 256 { vec![] } else { compare.counts.unmet() };
     unmet.iter().for_each(|number| println!("no call was refused with {number}"));
     compare.failed += unmet.len() as u64;
+    if count >= 256 && compare.counts.ends.spent == 0 {
+        println!("no station left alone was spent");
+        compare.failed += 1;
+    }
     println!("{} passed, {} failed", compare.passed, compare.failed);
     std::process::exit((compare.failed > 0) as i32);
 }
