@@ -12,7 +12,7 @@ pub const MOST_STEPS: usize = 65_536;
 pub const LONGEST_SHOW: usize = 512;
 
 /// 8 and 9.
-fn counts(n: u8, k: u8) -> Result<(), Refusal> {
+pub fn counts(n: u8, k: u8) -> Result<(), Refusal> {
     if !(1..=16).contains(&n) {
         return Err(Refusal::StationCount);
     }

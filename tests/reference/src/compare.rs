@@ -5,6 +5,8 @@ use crate::engine::{Engine, Reference};
 use crate::left_running::Ends;
 use crate::lent::Lent;
 use crate::random::Random;
+#[cfg(feature = "tapes")]
+use crate::verdicts::Verdicts;
 
 #[derive(Clone, Copy, Debug)]
 pub enum Call<'a> {
@@ -40,6 +42,9 @@ pub struct Counts {
     pub words: u64,
     /// How stations ended that were left alone or propose one figure.
     pub ends: Ends,
+    /// What was said of two tapes.
+    #[cfg(feature = "tapes")]
+    pub tapes: Verdicts,
     /// How often each refusal was the answer of a call on a board; at 0 the accepted calls.
     pub refusals: [u64; 21],
 }
@@ -60,6 +65,8 @@ pub struct Compare<'a> {
     pub told: Vec<String>,
     /// What lent buffers hold where their content does not matter.
     pub patterns: Random,
+    /// Whether one difference is enough, and no more is looked for.
+    pub enough: bool,
 }
 
 const TOLD: usize = 12;
@@ -146,7 +153,7 @@ fn hex(board: &[u8]) -> String {
 
 /// Whether something that is made from the seeds, one after another, tells the engine from the reference.
 pub fn differs(engine: &dyn Engine, mut seeds: impl Iterator<Item = u64>, made: impl Fn(&mut Compare, u64)) -> bool {
-    let mut compare = Compare::new(engine);
+    let mut compare = Compare { enough: true, ..Compare::new(engine) };
     seeds.any(|seed| {
         made(&mut compare, seed);
         compare.failed > 0
@@ -156,7 +163,7 @@ pub fn differs(engine: &dyn Engine, mut seeds: impl Iterator<Item = u64>, made: 
 impl<'a> Compare<'a> {
     pub fn new(engine: &'a dyn Engine) -> Compare<'a> {
         let patterns = Random::new(0);
-        Compare { engine, counts: Counts::default(), passed: 0, failed: 0, told: vec![], patterns }
+        Compare { engine, counts: Counts::default(), passed: 0, failed: 0, told: vec![], patterns, enough: false }
     }
 
     pub fn verdict(&mut self, same: bool, tell: impl FnOnce() -> String) {

@@ -1,4 +1,4 @@
-//! What is compared: the calls as the C interface packs them. `Reference` answers from this package; `Linked`, with
+//! What is compared: the calls as the C interface packs them. `Reference` answers from this package; `linked::Linked`, with
 //! the feature `engine`, from the proved library. The bits that a call does not use are zero.
 
 use crate::bytes::mark_byte;
@@ -8,8 +8,14 @@ use crate::model::{Answer, Standing};
 use crate::pairs;
 use crate::refusal::Refusal;
 use crate::sheet;
+#[cfg(feature = "tapes")]
+use crate::tapes::{self, Culprit};
 
 pub const SHOWN: usize = calls::LONGEST_SHOW;
+
+/// For a list of fewer than two numbers.
+#[cfg(feature = "tapes")]
+pub const NO_ROOM: u8 = 255;
 
 /// Every buffer is lent so that it could be written, also where a call may only read it: whoever writes there is found.
 pub trait Engine {
@@ -70,6 +76,20 @@ pub trait Engine {
     fn play_line(&self, line: &mut [u8], laid: usize, memory: &mut [u8], printed: &mut [u8]) -> u64 {
         self.rest().play_line(line, laid, memory, printed)
     }
+
+    /// Two tapes of a sheet. 0 or the refusal's number; the list begins with the number of the line and the culprit's tape, 0
+    /// and 0 for none, and stays as it was beside a refusal. 255 where the list has fewer than two numbers.
+    #[cfg(feature = "tapes")]
+    fn compare(&self, sheet: &mut [u8], first: &mut [u8], second: &mut [u8], found: &mut [u64]) -> u8 {
+        self.rest().compare(sheet, first, second, found)
+    }
+
+    /// The culprit's tape, 0 for none and beside a refusal; the list begins with the place where its line starts in that tape
+    /// and the line's length, 0 and 0 for none and beside a refusal. 255 where the list has fewer than two numbers.
+    #[cfg(feature = "tapes")]
+    fn culprit(&self, sheet: &mut [u8], first: &mut [u8], second: &mut [u8], part: &mut [u64]) -> u8 {
+        self.rest().culprit(sheet, first, second, part)
+    }
 }
 
 pub struct Reference;
@@ -102,6 +122,35 @@ pub fn packed_standing((standing, steps): (Standing, u16)) -> u64 {
         Standing::Spent(c, v) => (4, c, v),
     };
     kind << 8 | (island as u64) << 12 | (steps as u64) << 20 | (figure as u32 as u64) << 32
+}
+
+/// The first two numbers of a list that has them; those behind them stay.
+#[cfg(feature = "tapes")]
+fn put(answer: u8, two: Option<[usize; 2]>, list: &mut [u64]) -> u8 {
+    let Some(front) = list.first_chunk_mut::<2>() else { return NO_ROOM };
+    if let Some(two) = two {
+        *front = two.map(|number| number as u64);
+    }
+    answer
+}
+
+/// What the call for the number answers, and what it puts into the list.
+#[cfg(feature = "tapes")]
+pub fn put_found(found: Result<Option<Culprit>, Refusal>, list: &mut [u64]) -> u8 {
+    match found {
+        Ok(Some(culprit)) => put(0, Some([culprit.number, culprit.tape as usize]), list),
+        Ok(None) => put(0, Some([0, 0]), list),
+        Err(refusal) => put(refusal.number(), None, list),
+    }
+}
+
+/// What the call for the part answers, and what it puts into the list.
+#[cfg(feature = "tapes")]
+pub fn put_part(found: Result<Option<Culprit>, Refusal>, list: &mut [u64]) -> u8 {
+    match found {
+        Ok(Some(culprit)) => put(culprit.tape, Some([culprit.start, culprit.part.len()]), list),
+        Ok(None) | Err(_) => put(0, Some([0, 0]), list),
+    }
 }
 
 /// "512 bytes, zeros after the line"; the bytes behind them stay.
@@ -187,89 +236,14 @@ impl Engine for Reference {
         handed(&text, printed);
         text.len() as u64 | (after as u64) << 16
     }
-}
 
-#[cfg(feature = "engine")]
-pub use linked::Linked;
-
-#[cfg(feature = "engine")]
-mod linked {
-    use super::Engine;
-
-    extern "C" {
-        fn lufanelis_lay(board: *mut u8, length: usize, n: u8, k: u8) -> u8;
-        fn lufanelis_propose(board: *mut u8, length: usize, station: u8, figure: i32) -> u8;
-        fn lufanelis_propose_all(board: *mut u8, length: usize, pairs: *const u64, count: usize) -> u8;
-        fn lufanelis_check(board: *const u8, length: usize) -> u8;
-        fn lufanelis_step(board: *mut u8, length: usize, station: u8) -> u64;
-        fn lufanelis_standing(board: *const u8, length: usize, station: u8) -> u64;
-        fn lufanelis_run(board: *mut u8, length: usize, stations: *const u8, count: usize) -> u64;
-        fn lufanelis_rounds(board: *mut u8, length: usize, most: u8, named: *const u8, count: usize) -> u64;
-        fn lufanelis_show(board: *const u8, length: usize, line: *mut u8, room: usize) -> u32;
-        fn lufanelis_word(line: *const u8, length: usize) -> u64;
-        fn lufanelis_play_line(
-            line: *const u8,
-            length: usize,
-            laid: usize,
-            memory: *mut u8,
-            size: usize,
-            printed: *mut u8,
-            room: usize,
-        ) -> u64;
+    #[cfg(feature = "tapes")]
+    fn compare(&self, sheet: &mut [u8], first: &mut [u8], second: &mut [u8], found: &mut [u64]) -> u8 {
+        put_found(tapes::culprit(sheet, first, second), found)
     }
 
-    pub struct Linked;
-
-    // Each call lends memory that this side owns for the length of the call, with its true length.
-    impl Engine for Linked {
-        fn rest(&self) -> &dyn Engine {
-            unreachable!("it writes every call out")
-        }
-
-        fn lay(&self, board: &mut [u8], n: u8, k: u8) -> u8 {
-            unsafe { lufanelis_lay(board.as_mut_ptr(), board.len(), n, k) }
-        }
-
-        fn propose(&self, board: &mut [u8], station: u8, figure: i32) -> u8 {
-            unsafe { lufanelis_propose(board.as_mut_ptr(), board.len(), station, figure) }
-        }
-
-        fn propose_all(&self, board: &mut [u8], pairs: &mut [u64]) -> u8 {
-            unsafe { lufanelis_propose_all(board.as_mut_ptr(), board.len(), pairs.as_mut_ptr(), pairs.len()) }
-        }
-
-        fn check(&self, board: &mut [u8]) -> u8 {
-            unsafe { lufanelis_check(board.as_mut_ptr(), board.len()) }
-        }
-
-        fn step(&self, board: &mut [u8], station: u8) -> u64 {
-            unsafe { lufanelis_step(board.as_mut_ptr(), board.len(), station) }
-        }
-
-        fn standing(&self, board: &mut [u8], station: u8) -> u64 {
-            unsafe { lufanelis_standing(board.as_mut_ptr(), board.len(), station) }
-        }
-
-        fn run(&self, board: &mut [u8], stations: &mut [u8]) -> u64 {
-            unsafe { lufanelis_run(board.as_mut_ptr(), board.len(), stations.as_mut_ptr(), stations.len()) }
-        }
-
-        fn rounds(&self, board: &mut [u8], most: u8, named: &mut [u8]) -> u64 {
-            unsafe { lufanelis_rounds(board.as_mut_ptr(), board.len(), most, named.as_mut_ptr(), named.len()) }
-        }
-
-        fn show(&self, board: &mut [u8], line: &mut [u8]) -> u32 {
-            unsafe { lufanelis_show(board.as_mut_ptr(), board.len(), line.as_mut_ptr(), line.len()) }
-        }
-
-        fn word(&self, line: &mut [u8]) -> u64 {
-            unsafe { lufanelis_word(line.as_mut_ptr(), line.len()) }
-        }
-
-        fn play_line(&self, line: &mut [u8], laid: usize, memory: &mut [u8], printed: &mut [u8]) -> u64 {
-            let (text, length) = (line.as_mut_ptr(), line.len());
-            let (out, room) = (printed.as_mut_ptr(), printed.len());
-            unsafe { lufanelis_play_line(text, length, laid, memory.as_mut_ptr(), memory.len(), out, room) }
-        }
+    #[cfg(feature = "tapes")]
+    fn culprit(&self, sheet: &mut [u8], first: &mut [u8], second: &mut [u8], part: &mut [u64]) -> u8 {
+        put_part(tapes::culprit(sheet, first, second), part)
     }
 }

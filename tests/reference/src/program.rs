@@ -1,6 +1,7 @@
-//! The built program, run once per sheet.
+//! A built program, run once per sheet, or once per files that it is given the names of.
 
 use std::io::{Read, Write};
+use std::path::PathBuf;
 use std::process::{Command, Stdio};
 
 /// The whole sheet in one piece.
@@ -46,7 +47,22 @@ pub fn run(program: &str, sheet: &[u8], piece: usize) -> std::io::Result<Ending>
 
 /// What is asked of the program: the same output, nothing on standard error, a normal end.
 pub fn difference(program: &str, sheet: &[u8], expected: &[u8], piece: usize) -> Option<String> {
-    let ending = match run(program, sheet, piece) {
+    judged(run(program, sheet, piece), expected)
+}
+
+/// A program that is given names of files, and nothing to read from standard input.
+pub fn run_on(program: &str, files: &[PathBuf]) -> std::io::Result<Ending> {
+    let output = Command::new(program).args(files).stdin(Stdio::null()).output()?;
+    Ok(Ending { printed: output.stdout, complained: output.stderr, well: output.status.success() })
+}
+
+/// The same is asked of it.
+pub fn difference_on(program: &str, files: &[PathBuf], expected: &[u8]) -> Option<String> {
+    judged(run_on(program, files), expected)
+}
+
+fn judged(ending: std::io::Result<Ending>, expected: &[u8]) -> Option<String> {
+    let ending = match ending {
         Ok(ending) => ending,
         Err(error) => return Some(format!("the program did not run: {error}")),
     };

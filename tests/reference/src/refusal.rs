@@ -1,4 +1,4 @@
-//! Why a call is turned down, in checking order; 18 and 19 are tested after 11, and 20 between 11 and 12.
+//! Why a call is turned down, in checking order; 18 and 19 are tested after 11, 20 between 11 and 12, and 21 after 1.
 
 #[derive(Clone, Copy, PartialEq, Eq, Debug)]
 #[repr(u8)]
@@ -23,6 +23,8 @@ pub enum Refusal {
     AmidCollect = 18,
     BadRound = 19,
     NamedTwice = 20,
+    #[cfg(feature = "tapes")]
+    NoStepAnswer = 21,
 }
 
 impl Refusal {

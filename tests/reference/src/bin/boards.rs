@@ -3,8 +3,8 @@
 //! refusal must have been met, and a station that is left alone and spent where no island is left.
 
 use reference::compare::Compare;
-use reference::engine::Linked;
 use reference::left_running::Ends;
+use reference::linked::Linked;
 
 fn print(compare: &Compare) {
     let c = &compare.counts;
