@@ -1,2 +1,3 @@
 -- Laws that the proofs of `next_answer` and of the program cite.
 pub mod Sheets
+pub mod Written

@@ -6,6 +6,7 @@ use mathlib.Core.Option.{Option, none, some}
 use Prim.Native.Nat.{ℕ, _+_, _≤_, _<_, _-_}
 use lib.ListN.{length, take, drop}
 use denote.Ref.{RefT}
+use Rattle.model.specs.Forms as forms
 use Rattle.model.specs.Forms.{WordRow, boardRow, proposeRow, stepsRow, showRow, roundsRow, upToStop, behind}
 use Rattle.model.specs.Forms.{Reading, reads, unread, orFour}
 use Rattle.lexer.specs.declared.word.FoundWord.{FoundWord}
@@ -16,14 +17,14 @@ use Rattle.lexer.specs.declared.word.Named.{Named}
 use Rattle.lexer.specs.declared.word.Named.the-variants.{Form, Nothing}
 
 -- the model's row of each of the code's words
-abbrev pub wordRow : FormWord → WordRow
+abbrev pub wordRow : FormWord → WordRow forms.Form
 wordRow Board = boardRow
 wordRow Propose = proposeRow
 wordRow Steps = stepsRow
 wordRow Show = showRow
 wordRow Rounds = roundsRow
 
-unfoldable pub namedRow : Named → Option WordRow
+unfoldable pub namedRow : Named → Option (WordRow forms.Form)
 namedRow (Form w) = some (wordRow w)
 namedRow Nothing = none
 

@@ -1,5 +1,5 @@
 // Numbers at a place of a line: no plus, no leading zero, no −0, and each in its range.
-// Relies on nothing; the readers of items and forms and the run of items rely on it.
+// Relies on nothing; the readers of items, of forms and of a tape line and the run of items rely on it.
 ghost use Prim.Native.Nat.{_≤_};
 ghost use lib.ListN.{length};
 ghost use Rattle.lexer.specs.Placed.{DigitsIs, NumberIs, SpacedIs, FigureIs};

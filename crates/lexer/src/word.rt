@@ -1,5 +1,5 @@
 // The word that names a form, as the part of the line that it occupies, and which form it names; and a given word at a place.
-// Relies on the test of two parts for equality; the readers of a line and of items and the C interface rely on it.
+// Relies on the test of two parts for equality; the readers of a line, of items and of a tape line and the C interface rely on it.
 ghost use mathlib.Core.Path.{_≡_};
 ghost use Prim.Native.Nat.{_<_};
 ghost use lib.ListN.{length};
@@ -27,7 +27,7 @@ pub enum FoundWord {
 }
 
 // Where the word that starts at 1 ends: before a space, a bracket or the line's end.
-fn word_end(line: &[u8]) -> usize
+pub fn word_end(line: &[u8]) -> usize
     requires { ⌜ 0 < length (now line) ⌝ }
     ensures { λ r. ⌜ WordEnd (now (line .entry)) r ⌝ }
 {

@@ -1,6 +1,6 @@
 // The rounds of a `rounds` line, played as they stand in the line, so that no buffer holds them.
 // Relies on one round by the set of its suspended stations and on the reader of a known number: the line was read before, so
-// that nothing here can miss. The player of a line relies on it.
+// that nothing here can miss. The player of a line relies on it, and the rounds taped on its reader of a round.
 ghost use mathlib.Core.Path.{_≡_};
 ghost use mathlib.Core.Option.{none};
 ghost use Rattle.model.specs.Calls.{boardRefusal};
@@ -20,7 +20,7 @@ pub struct RoundAt {
 }
 
 // The round whose bracket opens at `at`. One byte stands before each number, the bracket or a space.
-fn round_at(line: &[u8], at: usize) -> RoundAt
+pub fn round_at(line: &[u8], at: usize) -> RoundAt
     requires { ⌜ RoundStands (now line) at ⌝ }
     ensures { λ r. ⌜ RoundIs (now (line .entry)) at r ⌝ }
 {

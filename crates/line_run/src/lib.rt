@@ -5,8 +5,10 @@
 ghost use mathlib.Core.Path.{_≡_};
 ghost use mathlib.Core.Option.{none};
 ghost use Prim.Native.Nat.{_<_};
+ghost use lib.Dec.{eqb};
 ghost use Rattle.model.specs.Calls.{boardRefusal};
-ghost use Rattle.line_run.specs.LineRuns.{repeatAfter, ItemReads, ItemsRead, ItemRuns, ItemsRun, LineCounts, RunsLine};
+ghost use Rattle.item_walks.specs.ItemWalks.{repeatAfter};
+ghost use Rattle.line_run.specs.LineRuns.{ItemRunnable, ItemsRunnable, ItemRuns, ItemsRun, LineCounts, RunsLine};
 use lexer::known::known_number;
 use model::RunVerdict;
 use model::Verdict;
@@ -23,7 +25,7 @@ pub struct PartRun {
 // would every later one: they are passed over, so that a line costs no more than the steps that it takes.
 fn repeat_after(i: u32, repeats: u32, taken: u32) -> u32
     requires { ⌜ i < repeats ⌝ }
-    ensures { λ r. ⌜ r ≡ repeatAfter i repeats taken ⌝ }
+    ensures { λ r. ⌜ r ≡ repeatAfter (eqb taken 0) i repeats ⌝ }
 {
     if taken == 0 {
         return repeats;
@@ -33,7 +35,7 @@ fn repeat_after(i: u32, repeats: u32, taken: u32) -> u32
 
 // The item at `at`.
 fn run_item(board: &mut [u8], line: &[u8], at: usize) -> PartRun
-    requires { ⌜ (boardRefusal (now board) none ≡ none) × ItemReads (now line) at ⌝ }
+    requires { ⌜ (boardRefusal (now board) none ≡ none) × ItemRunnable (now line) at ⌝ }
     ensures { λ r. ⌜ ItemRuns (now (line .entry)) at (now (board .entry)) r (now (board .exit)) ⌝ }
 {
     if line[at] != b'(' {
@@ -62,7 +64,7 @@ fn run_item(board: &mut [u8], line: &[u8], at: usize) -> PartRun
 
 // The items from `at` on, up to the closing bracket.
 fn run_items(board: &mut [u8], line: &[u8], at: usize) -> PartRun
-    requires { ⌜ (boardRefusal (now board) none ≡ none) × ItemsRead (now line) at ⌝ }
+    requires { ⌜ (boardRefusal (now board) none ≡ none) × ItemsRunnable (now line) at ⌝ }
     ensures { λ r. ⌜ ItemsRun (now (line .entry)) at (now (board .entry)) r (now (board .exit)) ⌝ }
 {
     let mut total: u32 = 0;

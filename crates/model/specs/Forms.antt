@@ -164,16 +164,16 @@ pairsIn l = listIn pairIn (length l + 1) l
 -- ---- the forms by their words
 
 -- the bracket that ends the line
-unfoldable pub closing : Form → List ℕ → Option Form
-closing f l = cond (same l (text ")")) (some f) none
+unfoldable pub closing : {A : Type 0} → A → List ℕ → Option A
+closing a l = cond (same l (text ")")) (some a) none
 
--- The word that names a form, and the reader of what follows it.
-pub record WordRow : Type 0 where
+-- A word, and the reader of what follows it.
+pub record WordRow (A : Type 0) : Type 0 where
   pub word : List ℕ
-  pub reader : List ℕ → Option Form
+  pub reader : List ℕ → Option A
 
 -- `(board n K)`, `(steps item ..)`, `(show)`; "n, K and stations are 0 to 99"
-unfoldable pub boardRow : WordRow
+unfoldable pub boardRow : WordRow Form
 boardRow = record {
   word = text "board";
   reader = λ l. andThen (spaced (numberIn 0 99) l) λ n k.
@@ -190,31 +190,32 @@ unfoldable pub togetherIn : List ℕ → Option Form
 togetherIn l = andThen (pairsIn l) λ ps rest. cond (same rest []) (some (proposals ps)) none
 
 -- "at least one pair": a bracket behind the space begins pairs
-unfoldable pub proposeRow : WordRow
+unfoldable pub proposeRow : WordRow Form
 proposeRow = record { word = text "propose"; reader = λ l. cond (eqb (byte l 1) 40) (togetherIn l) (singleIn l) }
 
-unfoldable pub stepsRow : WordRow
+unfoldable pub stepsRow : WordRow Form
 stepsRow = record {
   word = text "steps";
   reader = λ l. andThen (itemsIn (length l + 1) l) λ is rest. cond (same rest []) (some (steps is)) none;
 }
 
-unfoldable pub showRow : WordRow
+unfoldable pub showRow : WordRow Form
 showRow = record { word = text "show"; reader = closing show }
 
 -- `(rounds k (2) () ..)`: "k is 0 to 99, and there may be no round"
-unfoldable pub roundsRow : WordRow
+unfoldable pub roundsRow : WordRow Form
 roundsRow = record {
   word = text "rounds";
   reader = λ l. andThen (spaced (numberIn 0 99) l) λ k more.
       andThen (roundsIn more) λ rs rest. cond (same rest []) (some (rounds k rs)) none;
 }
 
-unfoldable pub wordRows : List WordRow
+-- the words that name forms
+unfoldable pub wordRows : List (WordRow Form)
 wordRows = boardRow ∷ proposeRow ∷ stepsRow ∷ showRow ∷ roundsRow ∷ []
 
 -- the row of a word
-unfoldable pub rowIn : List WordRow → (word : List ℕ) → Option WordRow
+unfoldable pub rowIn : {A : Type 0} → List (WordRow A) → (word : List ℕ) → Option (WordRow A)
 rowIn [] w = none
 rowIn (r ∷ rs) w = cond (same w (r .word)) (some r) (rowIn rs w)
 

@@ -1,5 +1,6 @@
 // A line to its form, or to refusal 2, 3 or 4.
-// Relies on the lexer's words and numbers, on items, rounds and pairs; the player of a line relies on it.
+// Relies on the lexer's words and numbers, on items, rounds and pairs; the player of a line relies on it, and the reader of
+// a tape line on `closes`.
 ghost use mathlib.Core.Path.{_≡_};
 ghost use Prim.Native.Nat.{_≤_};
 ghost use lib.ListN.{length, drop};
@@ -62,7 +63,7 @@ fn too_deep(line: &[u8]) -> bool
 }
 
 // Whether the line ends with a bracket at `at`.
-fn closes(line: &[u8], at: usize) -> bool
+pub fn closes(line: &[u8], at: usize) -> bool
     requires { ⌜ at ≤ length (now line) ⌝ }
     ensures { λ r. ⌜ r ≡ same (drop at (now (line .entry))) (text ")") ⌝ }
 {

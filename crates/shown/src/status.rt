@@ -1,6 +1,7 @@
 // The texts of the line that `show` hands back: its opening word, and a station's status with its number, word, island and
 // figure.
-// Relies on the line, on numbers and on how a station stands; the call that shows a board relies on it.
+// Relies on the line, on numbers and on how a station stands; the call that shows a board relies on it, and the writer of a
+// tape line on a word with its number and figure.
 use crate::line::Line;
 use crate::line::empty;
 use crate::line::put_word;
@@ -53,7 +54,14 @@ fn write_phase(bytes: &mut [u8; 512], at: usize, station: Record) -> usize
     }
 }
 
-fn write_standing(bytes: &mut [u8; 512], at: usize, word: &[u8], island: u8, figure: i32) -> usize
+// A word with a number and a figure.
+pub fn write_standing(
+    bytes: &mut [u8; 512],
+    at: usize,
+    word: &[u8],
+    island: u8,
+    figure: i32,
+) -> usize
     requires { ⌜ Room (lineOf (now bytes) at) (standingBytes (now word) island figure) ⌝ }
     ensures { λ r. ⌜ Puts (lineOf (now (bytes .entry)) at) (standingBytes (now (word .entry)) island figure) (lineOf (now (bytes .exit)) r) ⌝ }
 {

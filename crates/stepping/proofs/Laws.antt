@@ -1,11 +1,4 @@
 -- Laws over plain variables, one subject a file.
-pub mod Ready
-pub mod Touching
-pub mod Putting
-pub mod Met
-pub mod Accessing
-pub mod Counting
-pub mod Stepping
 pub mod Checking
 pub mod Running
 pub mod Joined

@@ -1,6 +1,7 @@
 // Steps on a sound board of which only the bytes and the number taken are asked: one of a station, and so many of it. No
 // answer is built, which would go through memory, and the refusals are not told apart.
-// Relies on the place of a station and on the step of a going one; the run, the run of items and a round rely on it.
+// Relies on the place of a station and on the step of a going one; the run, the run of items, a round and a step
+// taped rely on it.
 ghost use mathlib.Core.Path.{_≡_};
 ghost use mathlib.Core.List.{[], _∷_};
 ghost use mathlib.Core.Option.{none};
@@ -8,8 +9,9 @@ ghost use Prim.Native.Nat.{_+_};
 ghost use lib.ListN.{replicate};
 ghost use Rattle.model.specs.Calls.{boardRefusal, stepOn};
 ghost use Rattle.model.specs.Runs.{after};
-ghost use Rattle.stepping.specs.Stepped.{Known, TakesOn, RunsOn};
-use crate::accessing::step_going;
+ghost use Rattle.accessing.specs.Accessed.{Known};
+ghost use Rattle.stepping.specs.Stepped.{TakesOn, RunsOn};
+use accessing::step_going;
 use model::phase::IDLE;
 use model::phase::READ_B;
 use soundness::place::Place;

@@ -1,11 +1,12 @@
 // A step on a board that is known to be sound: refusals 12, 14, 15 and 16, then one access. Its cost is the same whatever
 // the size of the board.
-// Relies on the place of a station and on the step of a going one; the public step relies on it.
+// Relies on the place of a station and on the step of a going one; the public step and a step taped rely on
+// it.
 ghost use mathlib.Core.Path.{_≡_};
 ghost use mathlib.Core.Option.{none};
 ghost use Rattle.model.specs.Calls.{boardRefusal};
-ghost use Rattle.stepping.specs.Stepped.{StepsOn};
-use crate::accessing::step_going;
+ghost use Rattle.accessing.specs.Accessed.{StepsOn};
+use accessing::step_going;
 use model::StepAnswer;
 use model::phase::DECIDED;
 use model::phase::IDLE;

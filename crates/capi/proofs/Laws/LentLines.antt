@@ -28,7 +28,7 @@ use Rattle.capi.proofs.Laws.Listed.{Listed, listed}
 
 -- ---- words
 
-Short : WordRow → Type 0
+Short : WordRow Form → Type 0
 Short r = length (r .word) ≤ 7
 
 -- "propose" is the longest
@@ -40,7 +40,7 @@ short-word : (l : List ℕ) → length (formWord l) ≤ 7
 unfolding formWord Always Short
 short-word l = go (rowIn wordRows (firstWord l)) (row-stood Short wordRows (firstWord l) all-short)
   where
-    go : (o : Option WordRow) → Always (λ (r : WordRow). (firstWord l ≡ r .word) × Short r) o
+    go : (o : Option (WordRow Form)) → Always (λ (r : WordRow Form). (firstWord l ≡ r .word) × Short r) o
         → length {A = ℕ} (elim o [ none ↦ [] | some r ↦ firstWord l ]) ≤ 7
     go none h = omega arith
     go (some r) h = omega (arith, ap length (h .0), h .1)

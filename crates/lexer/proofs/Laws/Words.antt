@@ -1,11 +1,11 @@
 -- Words: where one ends, which form it names, and that the test of two texts for equality is the model's.
 -- Relies on the model's forms; the proofs of src/word.rt rely on it.
-use Rattle.model.proofs.Kit.{_≡_, refl, sym, ap, _∙_, Bool, true, false, cond, _&&_, _||_, List, [], _∷_, _++_}
+use Rattle.model.proofs.Kit.{_≡_, refl, sym, ap, _∙_, Bool, true, false, cond, _||_, List, [], _∷_, _++_}
 use Rattle.model.proofs.Kit.{append-assoc, append-nil, ℕ, suc, _+_, _-_, _≤_, _<_, eq-eqb, ne-eqb, eqb, length, take}
 use Rattle.model.proofs.Kit.{drop, length-drop, drop-of-length-le, getD, arith}
 use lib.Seq.{take-suc, drop-cons, getD-drop}
 use Rattle.model.proofs.Basics.Tests.{true-T}
-use Rattle.model.proofs.Sheet.WrittenBack.{same-text}
+use Rattle.model.proofs.Sheet.WrittenBack.{same-text, same-self}
 use Rattle.model.specs.Forms.{same, boardRow, proposeRow, stepsRow, showRow, roundsRow, wordRows, rowIn, upToStop}
 use Rattle.model.specs.Forms.{firstWord, formWord}
 use Rattle.model.specs.Show.{text}
@@ -16,11 +16,6 @@ use Rattle.lexer.specs.declared.word.Named.the-variants.{Form, Nothing}
 use Rattle.lexer.specs.Words.{WordEnd, namedRow}
 
 -- ---- the test of two texts
-
-pub same-self : (a : List ℕ) → same a a ≡ true
-unfolding same
-same-self [] = refl
-same-self (x ∷ a) = ap (λ (t : Bool). t && same a a) (eq-eqb x x refl) ∙ same-self a
 
 same-equal : (a b : List ℕ) → same a b ≡ true → a ≡ b
 same-equal a b e = same-text a b (true-T (same a b) e)

@@ -62,7 +62,7 @@ module _ (line : List ℕ) (at count needs : ℕ) (has : LineHas line at count n
       record { k = q .0; rounds = q .1; is = q .2 }
 
   module _ (k : ℕ) (rs : List (List ℕ)) (e : readLine line ≡ reads (forms.rounds k rs)) where
-    summed : (wordPlace line ≡ at) × (count ≡ length rs) × (halts.needs k rs ≡ needs)
+    pub summed : (wordPlace line ≡ at) × (count ≡ length rs) × (halts.needs k rs ≡ needs)
     unfolding LineHas lineForm
     summed =
         let q : Rounds (wordPlace line) (length rs) (halts.needs k rs) ≡ Rounds at count needs =
@@ -93,7 +93,7 @@ module _ (line : List ℕ) (at count needs : ℕ) (has : LineHas line at count n
   number-inside = omega (arith, known-inside line (at + 1) number-stands)
 
   module _ (n : KnownNumber) (known : KnownIs line (at + 1) n) where
-    rounds-there : (k : ℕ) (rs : List (List ℕ)) → readLine line ≡ reads (forms.rounds k rs)
+    pub rounds-there : (k : ℕ) (rs : List (List ℕ)) → readLine line ≡ reads (forms.rounds k rs)
         → roundsIn (drop (n .next) line) ≡ found rs []
     unfolding found InRange
     rounds-there k rs e =

@@ -3,13 +3,15 @@
 -- has been run.
 use Rattle.model.proofs.Kit.{ℕ, _-_, _<_, needs, length, arith}
 use Rattle.sheet.proofs.Laws.Items.{falls-to}
-use Rattle.line_run.proofs.Laws.RunItems.{item-inside, station-stands, station-fits, one-step, Repeats}
-use Rattle.line_run.proofs.Laws.RunItems.{repeats-stand}
-use Rattle.line_run.proofs.Laws.RunItems.{repeats-place, times-behind, repeats-begin, repeat-reads, repeat-fits}
-use Rattle.line_run.proofs.Laws.RunItems.{repeats-end}
-use Rattle.line_run.proofs.Laws.Idle.{fewer-left, repeat-on}
-use Rattle.line_run.proofs.Laws.Passing.{Passed, passed-begin, passed-inside, next-behind, at-inside, item-reads}
-use Rattle.line_run.proofs.Laws.Passing.{passed-fits, passed-less, passed-more, passed-end}
+use Rattle.item_walks.proofs.Laws.Items.{item-inside, station-stands, station-fits, one-step}
+use Rattle.item_walks.proofs.Laws.Repeats.{Repeats, repeats-stand, repeats-place, times-behind, repeats-begin}
+use Rattle.item_walks.proofs.Laws.Repeats.{repeats-end, fewer-left}
+use Rattle.item_walks.proofs.Laws.Passing.{Passed, passed-begin, passed-inside, next-behind, at-inside, passed-less}
+use Rattle.item_walks.proofs.Laws.Passing.{passed-end}
+use Rattle.line_run.specs.LineRuns.{RunFrom}
+use Rattle.line_run.proofs.Laws.RunItems.{run-none, run-one, run-sound, run-length}
+use Rattle.line_run.proofs.Laws.RunItems.{repeat-runnable, repeat-fits, item-runnable, passed-fits, passed-more}
+use Rattle.line_run.proofs.Laws.Idle.{repeat-on}
 use borrow.Fn.Kinds.{In}
 use borrow.Fn.PlainCycle.{Measures, is, falls, and}
 use Rattle.line_run.proofs.run_item.Reads as run-item
@@ -63,13 +65,14 @@ run-item-claims t = (
 
 abbrev run-item-Inv-loop : run-item-lts.InvT-loop
 run-item-Inv-loop board₀ line at repeats inner total₀ next₀ i₀ board total next i =
-    Repeats line board₀ repeats inner board total next i
+    Repeats (RunFrom board₀ total board) line repeats inner next i
 
 abbrev run-item-μ-loop : run-item-lts.MeasureT-loop
 run-item-μ-loop board₀ line at repeats inner total₀ next₀ i₀ board total next i = repeats - i
 
 abbrev run-items-Inv-loop : run-items-lts.InvT-loop
-run-items-Inv-loop board₀ line at total₀ place₀ board total place = Passed line at board₀ board total place
+run-items-Inv-loop board₀ line at total₀ place₀ board total place =
+    Passed (RunFrom board₀ total board) line at place
 
 abbrev run-items-μ-loop : run-items-lts.MeasureT-loop
 run-items-μ-loop board₀ line at total₀ place₀ board total place = length line - place
@@ -82,27 +85,27 @@ pub +run-item+run-items-spec : {M : Type 1} → statement M
     (λ c. search station-fits)
     (λ c κs. search needs)
     (λ c. search needs)
-    (λ c. search one-step)
+    (λ c. search (one-step, run-one))
     (λ c.
     let b = c .before .before .before in
-    record { fits = omega (arith, repeats-place _ _ (c .before .if1 .left) (b .before .before .pre .1 .1)) })
+    record { fits = omega (arith, repeats-place _ _ (c .before .if1 .left) (b .before .before .pre .1 .1 .there)) })
     (λ c κs. repeats-stand _ _ (c .before .if1 .left) (search))
-    (λ c. search repeats-begin)
-    (λ c κs. search (falls-to, times-behind, item-inside, repeat-reads))
+    (λ c. search (repeats-begin, run-none))
+    (λ c κs. (search (falls-to, times-behind, item-inside), (search run-sound, search repeat-runnable)))
     (λ c. search repeat-fits)
     (λ c κs. search needs)
     (λ c. search fewer-left)
     (λ c. search repeat-on)
-    (λ c. search needs)
+    (λ c. search run-length)
     (λ c. search repeats-end))
     (λ t. run-items-lts.spec (run-items-claims t) (run-items-at t) run-items.Post run-items-Inv-loop run-items-μ-loop
-    (λ c. search passed-begin)
+    (λ c. search (passed-begin, run-none))
     (λ c. search passed-inside)
-    (λ c. omega (arith, passed-inside _ _ _ _ _ _ (c .before .before .before .loop .inv)))
-    (λ c κs. search (falls-to, next-behind, at-inside, item-reads))
+    (λ c. omega (arith, passed-inside _ _ _ _ (c .before .before .before .loop .inv)))
+    (λ c κs. (search (falls-to, next-behind, at-inside), (search run-sound, search item-runnable)))
     (λ c. search passed-fits)
     (λ c. search passed-less)
     (λ c. search passed-more)
-    (λ c. omega (arith, passed-inside _ _ _ _ _ _ (c .before .before .loop .inv)))
-    (λ c. search needs)
+    (λ c. omega (arith, passed-inside _ _ _ _ (c .before .before .loop .inv)))
+    (λ c. search run-length)
     (λ c. search passed-end))

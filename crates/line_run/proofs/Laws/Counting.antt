@@ -20,8 +20,9 @@ use Rattle.sheet.specs.LineForms.{lineForm}
 use Rattle.sheet.proofs.Laws.Readings.{read-as}
 use Rattle.stepping.specs.Stepped.{RunsOn}
 use Rattle.stepping.proofs.Laws.Running.{runs-below, too-many, board-refuses, ran-through}
+use Rattle.item_walks.specs.ItemWalks.{ItemsRead, PartDone}
 use Rattle.line_run.specs.declared.PartRun.{PartRun}
-use Rattle.line_run.specs.LineRuns.{PartRuns, ItemsRead, ItemsRun, LineCounts, RunsLine}
+use Rattle.line_run.specs.LineRuns.{ItemsRunnable, RunFrom, ItemsRun, LineCounts, RunsLine}
 
 -- the items stand behind the word, up to the line's last bracket
 behind-word : (is : Items) → drop (wordPlace (written (steps is))) (written (steps is)) ≡ writtenItems is ++ (41 ∷ [])
@@ -42,7 +43,7 @@ items-at line is e =
 
 module _ (line : List ℕ) (at c : ℕ) (counts : LineCounts line at c) where
   -- the place is the word's, and the count that of the steps, up to 65,537
-  counted : (is : Items) → readLine line ≡ reads (steps is)
+  pub counted : (is : Items) → readLine line ≡ reads (steps is)
       → (wordPlace line ≡ at) × (c ≡ min (length (expand is)) 65537)
   unfolding LineCounts lineForm
   counted is e =
@@ -52,26 +53,25 @@ module _ (line : List ℕ) (at c : ℕ) (counts : LineCounts line at c) where
       let count : c ≡ min (length (expand is)) 65537 = cc in
       (same, count)
 
-  items-there : (is : Items) → readLine line ≡ reads (steps is)
+  pub items-there : (is : Items) → readLine line ≡ reads (steps is)
       → itemsIn (length (writtenItems is) + 1) (drop at line) ≡ found is []
   items-there is e =
       subst (λ (k : ℕ). itemsIn (length (writtenItems is) + 1) (drop k line) ≡ found is []) (counted is e .0)
       (items-at line is e)
 
-  its-items : (is : Items) × (readLine line ≡ reads (steps is))
+  pub its-items : (is : Items) × (readLine line ≡ reads (steps is))
   unfolding LineCounts
   its-items = read-as (wordPlace line) (readLine line) (Steps at c) counts
 
-  pub line-reads : c ≤ 65536 → ItemsRead line at
-  line-reads h =
+  pub line-items : ItemsRead line at
+  line-items =
       let s = its-items in
-      record {
-        fuel = length (writtenItems (s .0)) + 1;
-        value = s .0;
-        rest = [];
-        read = items-there (s .0) (s .1);
-        few = omega (arith, counted (s .0) (s .1) .1);
-      }
+      record { fuel = length (writtenItems (s .0)) + 1; value = s .0; rest = []; read = items-there (s .0) (s .1) }
+
+  pub line-reads : c ≤ 65536 → ItemsRunnable line at
+  unfolding line-items
+  line-reads h =
+      let s = its-items in record { there = line-items; few = omega (arith, counted (s .0) (s .1) .1) }
 
   pub line-too-many : 65536 < c → (b : List ℕ) → RunsLine line b (runs.Refused 6) b
   unfolding RunsLine
@@ -85,7 +85,7 @@ module _ (line : List ℕ) (at c : ℕ) (counts : LineCounts line at c) where
 
     module _ (w : PartRun) (d : List ℕ) (items-run : ItemsRun line at b w d) where
       ran-on : (is : Items) → readLine line ≡ reads (steps is) → RunsOn (expand is) b (w .taken) d
-      unfolding PartRuns
+      unfolding PartDone RunFrom
       ran-on is e = items-run _ is [] (items-there is e) .ran
 
       pub taken-below : w .taken ≤ c

@@ -28,7 +28,7 @@ use Rattle.model.proofs.Bridge.RunCalls.{ran-calls, singles-leave}
 -- ---- runs, refused or not
 
 -- on a board that is turned down, so is every single step
-steps-refused : (is b : List ℕ) (k : ℕ) → boardRefusal b none ≡ some k → after (map stepping is) b ≡ b
+pub steps-refused : (is b : List ℕ) (k : ℕ) → boardRefusal b none ≡ some k → after (map stepping is) b ≡ b
 unfolding after called step unlessRefused
 steps-refused [] b k e = refl
 steps-refused (i ∷ is) b k e =

@@ -1,8 +1,8 @@
 -- What the reader takes for a form is that form as 01's grammar writes it, in its ranges, and nothing else.
 -- Relies on the grammar written out and on its numbers; with Written it says that the reader is the grammar.
-use Rattle.model.proofs.Kit.{_≡_, refl, sym, ap, subst, _∙_, cond, _||_, not, List, [], _∷_, _++_, none, some}
-use Rattle.model.proofs.Kit.{Option, ℕ, zero, suc, _+_, _≤_, _<_, eqb-true, eqb, leb, lit<, T, eqb→eq, length}
-use Rattle.model.proofs.Kit.{drop, w32, SFits, add-one, arith}
+use Rattle.model.proofs.Kit.{_≡_, refl, sym, ap, subst, _∙_, Bool, true, cond, _&&_, _||_, not, List, [], _∷_}
+use Rattle.model.proofs.Kit.{_++_, none, some, Option, ℕ, zero, suc, _+_, _≤_, _<_, eqb-true, eq-eqb, eqb, leb}
+use Rattle.model.proofs.Kit.{lit<, T, eqb→eq, length, drop, w32, SFits, add-one, arith}
 use Rattle.model.specs.Bytes.{byte, Each}
 use Rattle.model.specs.Calls.{Refusal, unless}
 use Rattle.model.specs.Show.{textFrom, text, decimal, signed}
@@ -117,16 +117,21 @@ same-text (a ∷ k) [] t = absurd t
 same-text (a ∷ k) (b ∷ l) t =
     λ j. eqb→eq a b (and-l (eqb a b) (same k l) t) j ∷ same-text k l (and-r (eqb a b) (same k l) t) j
 
+pub same-self : (a : List ℕ) → same a a ≡ true
+unfolding same
+same-self [] = refl
+same-self (x ∷ a) = ap (λ (t : Bool). t && same a a) (eq-eqb x x refl) ∙ same-self a
+
 -- a row that is found has the word, and what holds of each
-pub row-stood : (P : WordRow → Type 0) (rs : List WordRow) (w : List ℕ) → Each P rs
-    → Always (λ (r : WordRow). (w ≡ r .word) × P r) (rowIn rs w)
+pub row-stood : {A : Type 0} (P : WordRow A → Type 0) (rs : List (WordRow A)) (w : List ℕ) → Each P rs
+    → Always (λ (r : WordRow A). (w ≡ r .word) × P r) (rowIn rs w)
 unfolding rowIn Each Always
 row-stood P [] w h = tt
-row-stood P (r ∷ rs) w h =
-    cond-case (Always (λ (r : WordRow). (w ≡ r .word) × P r)) (same w (r .word)) (some r) (rowIn rs w)
+row-stood {A = A} P (r ∷ rs) w h =
+    cond-case (Always (λ (r : WordRow A). (w ≡ r .word) × P r)) (same w (r .word)) (some r) (rowIn rs w)
     (λ e. (same-text w (r .word) (true-T _ e), h .0)) (λ e. row-stood P rs w (h .1))
 
-up-to-splits : (l : List ℕ) → l ≡ upToStop l ++ drop (length (upToStop l)) l
+pub up-to-splits : (l : List ℕ) → l ≡ upToStop l ++ drop (length (upToStop l)) l
 unfolding upToStop
 up-to-splits [] = refl
 up-to-splits (b ∷ l) =
@@ -150,9 +155,10 @@ first-splits (b ∷ l) w h =
 FormStood : List ℕ → Form → Type 0
 FormStood l f = (l ≡ written f) × InRange f
 
-closes : (l : List ℕ) (f : Form) (k : List ℕ) → (k ≡ text ")" → FormStood l f) → Always (FormStood l) (closing f k)
+-- the closing bracket, and nothing behind it
+pub closes : {A : Type 0} (P : A → Type 0) (a : A) (k : List ℕ) → (k ≡ text ")" → P a) → Always P (closing a k)
 unfolding closing Always
-closes l f k h = always-if (FormStood l) (same k (text ")")) (some f) (λ e. h (same-text k (text ")") (true-T _ e)))
+closes P a k h = always-if P (same k (text ")")) (some a) (λ e. h (same-text k (text ")") (true-T _ e)))
 
 -- two things behind spaces, and the closing bracket
 two-stood : {A B : Type 0} (W : A → List ℕ) (P : A → Type 0) (U : B → List ℕ) (Q : B → Type 0)
@@ -168,7 +174,7 @@ two-stood W P U Q one two w form h l is in-range k =
     always-then (Stood (λ a. 32 ∷ W a) P k) (FormStood (40 ∷ (w ++ k))) (spaced one k) _ (spaced-stood W P one k h)
     (λ r g. always-then (Stood (λ b. 32 ∷ U b) Q (r .rest)) (FormStood (40 ∷ (w ++ k))) (spaced two (r .rest)) _
     (spaced-stood U Q two (r .rest) l)
-    (λ s f. closes (40 ∷ (w ++ k)) (form (r .value) (s .value)) (s .rest)
+    (λ s f. closes (FormStood (40 ∷ (w ++ k))) (form (r .value) (s .value)) (s .rest)
     (λ e. (
       ap (λ (x : List ℕ). 40 ∷ (w ++ x))
           (g .0 ∙ ap (λ (x : List ℕ). 32 ∷ (W (r .value) ++ x))
@@ -178,7 +184,7 @@ two-stood W P U Q one two w form h l is in-range k =
     ))))
 
 -- a row's word is some, and what its reader takes stands behind it as the form is written
-unfoldable RowStood : WordRow → Type 0
+unfoldable RowStood : WordRow Form → Type 0
 RowStood r = (0 < length (r .word)) × ((k : List ℕ) → Always (FormStood (40 ∷ (r .word ++ k))) (r .reader k))
 
 board-stood : RowStood boardRow
@@ -237,7 +243,8 @@ show-stood : RowStood showRow
 unfolding RowStood showRow FormStood written InRange text textFrom
 show-stood = (
   omega arith,
-  λ k. closes (40 ∷ (text "show" ++ k)) show k (λ e. (ap (λ (x : List ℕ). 40 ∷ (text "show" ++ x)) e, tt)),
+  λ k. closes (FormStood (40 ∷ (text "show" ++ k))) show k
+      (λ e. (ap (λ (x : List ℕ). 40 ∷ (text "show" ++ x)) e, tt)),
 )
 
 rounds-row-stood : RowStood roundsRow
@@ -268,7 +275,7 @@ form-stood : (l : List ℕ) → Always (FormStood l) (formIn l)
 unfolding formIn wordPlace RowStood Always
 form-stood l = go (rowIn wordRows (firstWord l)) (row-stood RowStood wordRows (firstWord l) rows-stood)
   where
-    go : (o : Option WordRow) → Always (λ (r : WordRow). (firstWord l ≡ r .word) × RowStood r) o
+    go : (o : Option (WordRow Form)) → Always (λ (r : WordRow Form). (firstWord l ≡ r .word) × RowStood r) o
         → Always (FormStood l) (elim o [ none ↦ none | some r ↦ r .reader (drop (length (firstWord l) + 1) l) ])
     go none h = tt
     go (some r) h =

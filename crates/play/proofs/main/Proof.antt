@@ -4,7 +4,8 @@ use mathlib.Core.Path.{_≡_}
 use Prim.Native.Nat.{_≤_, _-_}
 use borrow.Author.Needs.{needs}
 use lib.ListN.{length}
-use Rattle.play.proofs.Laws.{counted, inside, falls}
+use Rattle.answers.proofs.Written.{counted, inside}
+use Rattle.play.proofs.Laws.{falls}
 use Rattle.play.proofs.main.Statement.{statement}
 use Rattle.play.proofs.main.Tie as tie
 

@@ -110,7 +110,7 @@ module _ (most : ℕ) (named : List ℕ) where
 pub record PlayedTo (b named : List ℕ) (at : ℕ) (d : List ℕ) : Type 0 where
   pub done : List (List ℕ)
   pub upto : Upto named at done
-  pub plays : RanRounds b done d
+  pub plays : RanRounds b d done
 
 module _ (b named : List ℕ) where
   pub played-begun : boardRefusal b none ≡ none → PlayedTo b named 0 b

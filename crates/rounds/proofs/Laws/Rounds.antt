@@ -1,5 +1,6 @@
 -- Rounds played one after another, and what the call then answers; for any rounds, however they were read.
--- Relies on steps on a sound board and on the set of suspended stations; the lent rounds and a sheet's line rely on it.
+-- Relies on steps on a sound board and on the set of suspended stations; the lent rounds and a sheet's line rely on it,
+-- played or taped.
 use Rattle.model.proofs.Kit.{_≡_, refl, sym, ap, subst, _∙_, Bool, cond, List, [], _∷_, _++_, append-assoc, append-nil}
 use Rattle.model.proofs.Kit.{none, some, ℕ, zero, suc, _+_, _≤_, length, replicate, getD, lt-ltb, arith}
 use Rattle.model.specs.declared.Verdict.{Verdict}
@@ -39,7 +40,7 @@ round-steps n halted r h s =
 
 -- ---- one round after another
 
-rounds-more : (n : ℕ) (rs : List (List ℕ)) (r : List ℕ)
+pub rounds-more : (n : ℕ) (rs : List (List ℕ)) (r : List ℕ)
     → roundsSteps n (rs ++ (r ∷ [])) ≡ roundsSteps n rs ++ roundSteps n r
 unfolding roundsSteps
 rounds-more n [] r = append-nil (roundSteps n r)
@@ -48,17 +49,17 @@ rounds-more n (q ∷ rs) r =
     ∙ sym (append-assoc (roundSteps n q) (roundsSteps n rs) (roundSteps n r))
 
 -- the rounds rs were played on the board b, and d is the board that they leave
-unfoldable pub RanRounds : (b : List ℕ) (rs : List (List ℕ)) (d : List ℕ) → Type 0
-RanRounds b rs d = Ran b (roundsSteps (stations b) rs) d
+unfoldable pub RanRounds : (b d : List ℕ) (rs : List (List ℕ)) → Type 0
+RanRounds b d rs = Ran b (roundsSteps (stations b) rs) d
 
-pub no-rounds : (b : List ℕ) → boardRefusal b none ≡ none → RanRounds b [] b
+pub no-rounds : (b : List ℕ) → boardRefusal b none ≡ none → RanRounds b b []
 unfolding RanRounds roundsSteps
 no-rounds b s = ran-none b s
 
 pub one-round-more : (b : List ℕ) (rs : List (List ℕ)) (d : List ℕ) (halted : List Bool) (r e : List ℕ)
-    → RanRounds b rs d
+    → RanRounds b d rs
     → Suspends halted r → e ≡ afterRound halted d
-    → RanRounds b (rs ++ (r ∷ [])) e
+    → RanRounds b e (rs ++ (r ∷ []))
 unfolding RanRounds stations
 one-round-more b rs d halted r e p s q =
     subst (λ (l : List ℕ). Ran b l e) (sym (rounds-more (getD b 0 0) rs r))
@@ -66,15 +67,15 @@ one-round-more b rs d halted r e p s q =
     (q ∙ ap (after stepOn d)
     (round-steps (getD d 0 0) halted r (n-high d (p .sound)) s ∙ ap (λ (n : ℕ). roundSteps n r) (p .head))))
 
-pub rounds-sound : (b : List ℕ) (rs : List (List ℕ)) (d : List ℕ) → RanRounds b rs d → boardRefusal d none ≡ none
+pub rounds-sound : (b : List ℕ) (rs : List (List ℕ)) (d : List ℕ) → RanRounds b d rs → boardRefusal d none ≡ none
 unfolding RanRounds
 rounds-sound b rs d p = p .sound
 
-pub rounds-length : (b : List ℕ) (rs : List (List ℕ)) (d : List ℕ) → RanRounds b rs d → length d ≡ length b
+pub rounds-length : (b : List ℕ) (rs : List (List ℕ)) (d : List ℕ) → RanRounds b d rs → length d ≡ length b
 unfolding RanRounds
 rounds-length b rs d p = p .len
 
-pub rounds-bytes : (b : List ℕ) (rs : List (List ℕ)) (d : List ℕ) → RanRounds b rs d
+pub rounds-bytes : (b : List ℕ) (rs : List (List ℕ)) (d : List ℕ) → RanRounds b d rs
     → d ≡ afterRounds rs b
 unfolding RanRounds
 rounds-bytes b rs d p = p .bytes

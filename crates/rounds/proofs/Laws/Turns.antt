@@ -1,5 +1,6 @@
 -- Steps on a sound board one after another: a station's turn, and those of all stations.
--- Relies on the model's runs and on the steps of one station; the proofs of one round rely on it.
+-- Relies on the model's runs and on the steps of one station; the proofs of one round rely on it, and so do those of
+-- one that is taped.
 use Rattle.model.proofs.Kit.{_≡_, sym, ap, subst, _∙_, Bool, true, false, cond, List, [], _++_, none, ℕ, suc, _+_, _-_}
 use Rattle.model.proofs.Kit.{_≤_, replicate, getD, add-one, arith}
 use Rattle.model.specs.Calls.{stations, boardRefusal, stepOn}
@@ -21,6 +22,20 @@ module _ (b : List ℕ) (halted : Bool) (js : List ℕ) where
 
 -- ---- all stations in turn
 
+-- the steps with those of one station more
+pub turns-more : (steps j : ℕ) (halted : List Bool) → inTurn steps (j + 1) (suspended halted)
+    ≡ inTurn steps j (suspended halted) ++ cond (getD halted j false) [] (replicate steps (j + 1))
+unfolding inTurn suspended
+turns-more steps j halted =
+    ap (λ (k : ℕ). inTurn steps k (suspended halted)) (add-one j)
+    ∙ (λ i. inTurn steps j (suspended halted) ++ cond (getD halted (back i) false) [] (replicate steps (number i)))
+  where
+    back : suc j - 1 ≡ j
+    back = omega arith
+
+    number : suc j ≡ j + 1
+    number = omega arith
+
 module _ (b : List ℕ) (halted : List Bool) (steps : ℕ) where
   pub turns-begun : boardRefusal b none ≡ none → Ran b (inTurn steps 0 (suspended halted)) b
   unfolding inTurn
@@ -29,22 +44,9 @@ module _ (b : List ℕ) (halted : List Bool) (steps : ℕ) where
   pub one-turn-more : (j : ℕ) (d e : List ℕ) → Ran b (inTurn steps j (suspended halted)) d
       → e ≡ after stepOn d (cond (getD halted j false) [] (replicate steps (j + 1)))
       → Ran b (inTurn steps (j + 1) (suspended halted)) e
-  unfolding inTurn suspended
   one-turn-more j d e r h =
-      subst (λ (l : List ℕ). Ran b l e) (sym grown) (ran-then b (inTurn steps j (suspended halted)) d _ e r h)
-    where
-      back : suc j - 1 ≡ j
-      back = omega arith
-
-      number : suc j ≡ j + 1
-      number = omega arith
-
-      grown : inTurn steps (j + 1) (suspended halted)
-          ≡ inTurn steps j (suspended halted) ++ cond (getD halted j false) [] (replicate steps (j + 1))
-      grown =
-          ap (λ (k : ℕ). inTurn steps k (suspended halted)) (add-one j)
-          ∙ (λ i. inTurn steps j (suspended halted)
-          ++ cond (getD halted (back i) false) [] (replicate steps (number i)))
+      subst (λ (l : List ℕ). Ran b l e) (sym (turns-more steps j halted))
+      (ran-then b (inTurn steps j (suspended halted)) d _ e r h)
 
   pub turns-ended : (j : ℕ) (d : List ℕ) → Ran b (inTurn steps j (suspended halted)) d → j ≤ getD b 0 0
       → getD b 0 0 ≤ j

@@ -9,7 +9,7 @@ use Rattle.model.specs.Filled.{refusal}
 use Rattle.model.specs.Calls.{Refusal, boardRefusal, unlessRefused, stepOn, step}
 use Rattle.model.specs.Told.{told, verdict}
 use Rattle.soundness.proofs.Laws.Checked.{turned}
-use Rattle.stepping.specs.Stepped.{StepsOn}
+use Rattle.accessing.specs.Accessed.{StepsOn}
 
 pub step-turned : (i : ℕ) (b : List ℕ) (v : Verdict) (k : ℕ) → v ≡ Refused k → verdict v ≡ boardRefusal b none
     → (told (answers.Refused k) ≡ step i b .answer) × (b ≡ step i b .bytes)

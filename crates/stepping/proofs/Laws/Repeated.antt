@@ -22,9 +22,10 @@ use Rattle.soundness.specs.declared.place.Place.{Place}
 use Rattle.soundness.specs.declared.place.Place.the-variants as places
 use Rattle.soundness.specs.Placed.{Placed}
 use Rattle.soundness.proofs.Laws.Placing.{at-place}
-use Rattle.stepping.specs.Stepped.{Known, StepsOn, TakesOn, RunsOn}
+use Rattle.accessing.specs.Accessed.{Known, StepsOn}
+use Rattle.stepping.specs.Stepped.{TakesOn, RunsOn}
 use Rattle.stepping.proofs.Laws.Joined.{runs-one, runs-sound, runs-head, runs-length}
-use Rattle.stepping.proofs.Laws.Stepping as stepping
+use Rattle.accessing.proofs.Laws.Stepping as stepping
 
 -- the steps `is` were taken on the board b, and d is the board that they leave
 pub record Ran (b is d : List ℕ) : Type 0 where

@@ -1,7 +1,7 @@
 -- `repeated::step_counted` meets its contract; each return is a law of Repeated.
 use Rattle.model.proofs.Kit.{needs, arith}
 use Rattle.soundness.proofs.Laws.Placing.{head-long}
-use Rattle.stepping.proofs.Laws.Stepping.{phase-inside, known-at}
+use Rattle.accessing.proofs.Laws.Stepping.{phase-inside, known-at}
 use Rattle.stepping.proofs.Laws.Repeated.{nowhere-counts, idle-counts, done-counts, going-counts}
 use Rattle.stepping.proofs.repeated.step_counted.Statement.{statement}
 use Rattle.stepping.proofs.repeated.step_counted.Tie as tie

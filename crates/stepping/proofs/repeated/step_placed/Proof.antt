@@ -1,6 +1,6 @@
 -- `repeated::step_placed`: a station that takes no step, or one that goes on; each return is a law of Repeated.
 use Rattle.model.proofs.Kit.{needs, arith}
-use Rattle.stepping.proofs.Laws.Stepping.{going-inside}
+use Rattle.accessing.proofs.Laws.Stepping.{going-inside}
 use Rattle.stepping.proofs.Laws.Repeated.{idle-stays, done-stays, takes}
 use Rattle.stepping.proofs.repeated.step_placed.Statement.{statement}
 use Rattle.stepping.proofs.repeated.step_placed.Tie as tie

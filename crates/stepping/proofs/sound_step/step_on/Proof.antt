@@ -2,8 +2,8 @@
 -- 12, 14, 15 and 16 in checking order, else the step of a going station; each return is a law of Stepping.
 use Rattle.model.proofs.Kit.{needs, arith}
 use Rattle.soundness.proofs.Laws.Placing.{head-long}
-use Rattle.stepping.proofs.Laws.Stepping.{no-station, phase-inside, fourteen, fifteen, sixteen}
-use Rattle.stepping.proofs.Laws.Stepping.{known-at, by-number}
+use Rattle.accessing.proofs.Laws.Stepping.{no-station, phase-inside, fourteen, fifteen, sixteen}
+use Rattle.accessing.proofs.Laws.Stepping.{known-at, by-number}
 use Rattle.stepping.proofs.sound_step.step_on.Statement.{statement}
 use Rattle.stepping.proofs.sound_step.step_on.Tie as tie
 

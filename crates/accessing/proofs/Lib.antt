@@ -1,0 +1,2 @@
+-- Laws that the proofs of one step cite.
+pub mod Laws

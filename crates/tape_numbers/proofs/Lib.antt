@@ -1,0 +1,2 @@
+-- Laws that the proofs of the numbers of a comparison cite.
+pub mod Laws

@@ -1,0 +1,2 @@
+-- What a comparison is as numbers.
+pub mod Numbers

@@ -1,0 +1,2 @@
+-- Laws of the tape of a line's items, by subject.
+pub mod TapeItems

@@ -1,0 +1,6 @@
+-- Laws of the tape of a line.
+pub mod Entries
+pub mod Lines
+pub mod OnBoard
+pub mod Played
+pub mod Sheets

@@ -1,0 +1,2 @@
+-- Laws that the proofs of a taped line cite.
+pub mod Laws

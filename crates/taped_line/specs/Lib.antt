@@ -1,0 +1,2 @@
+-- What the tape of a line promises, in the words of the model's tape.
+pub mod TapedLines

@@ -1,0 +1,3 @@
+-- Laws over plain variables, one subject a file.
+pub mod Turns
+pub mod Rounds

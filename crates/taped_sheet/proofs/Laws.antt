@@ -1,0 +1,5 @@
+-- Laws of the tape of a sheet in parts.
+pub mod Windows
+pub mod Few
+pub mod NextPart
+pub mod Whole

@@ -1,0 +1,50 @@
+-- A tape tested line by line, and the blame by the algorithm's own line.
+-- Relies on where a line ends; the proofs of `all_entries` and `blamed` rely on it.
+use Rattle.model.proofs.Kit.{_≡_, refl, sym, ap, _∙_, Bool, true, false, not, _&&_, cond, List, [], some, ℕ, _+_, _-_, _≤_}
+use Rattle.model.proofs.Kit.{_<_, length, take, drop}
+use Rattle.tape_model.specs.declared.Tap.the-variants as tap
+use Rattle.model.specs.Forms.{same}
+use Rattle.model.specs.Sheet.{linesOf}
+use Rattle.tape_model.specs.Tape.{Tap, first, second, isEntry, taped, culprit}
+use Rattle.tape_model.specs.TapeTold.{tapTold}
+use Rattle.model.proofs.Basics.Ended.{no-parts}
+use Rattle.lexer.proofs.Laws.Words.{same-says}
+use Rattle.lines.specs.Ends.{LineEnd}
+use Rattle.tapes.proofs.Laws.Differences.{like, unlike}
+
+-- the lines before `at` are step answers
+unfoldable pub Checked : (tape : List ℕ) (at : ℕ) → Type 0
+Checked tape at = taped (linesOf tape) ≡ taped (linesOf (drop at tape))
+
+pub checked-begun : (tape : List ℕ) → Checked tape 0
+unfolding Checked
+checked-begun tape = refl
+
+module _ (tape : List ℕ) (at : ℕ) (so-far : Checked tape at) where
+  pub checked-all : length tape ≤ at → true ≡ taped (linesOf tape)
+  unfolding Checked taped
+  checked-all h = sym (so-far ∙ ap taped (no-parts 10 tape at h))
+
+  module _ (end : ℕ) (ends : LineEnd tape at end) (inside : at < length tape) (r : Bool)
+      (says : r ≡ isEntry (take (end - at) (drop at tape))) where
+    one : taped (linesOf tape) ≡ r && taped (linesOf (drop (end + 1) tape))
+    unfolding Checked taped
+    one = so-far ∙ ap taped (ends .lines inside) ∙ ap (λ (t : Bool). t && taped (linesOf (drop (end + 1) tape))) (sym says)
+
+    pub checked-more : not r ≡ false → Checked tape (end + 1)
+    unfolding Checked
+    checked-more q = one ∙ ap (λ (t : Bool). t && taped (linesOf (drop (end + 1) tape))) (like r q)
+
+    pub not-checked : not r ≡ true → false ≡ taped (linesOf tape)
+    not-checked q = sym (one ∙ ap (λ (t : Bool). t && taped (linesOf (drop (end + 1) tape))) (unlike r q))
+
+-- ---- the blame
+
+module _ (l o : List ℕ) (r : Bool) (says : (r ≡ true → l ≡ o) × (l ≡ o → r ≡ true)) where
+  pub blames-second : r ≡ true → tapTold tap.Second ≡ culprit (some o) (some l)
+  unfolding tapTold culprit
+  blames-second e = sym (ap (λ (t : Bool). cond t second first) (same-says l o r true says e))
+
+  pub blames-first : r ≡ false → tapTold tap.First ≡ culprit (some o) (some l)
+  unfolding tapTold culprit
+  blames-first e = sym (ap (λ (t : Bool). cond t second first) (same-says l o r false says e))

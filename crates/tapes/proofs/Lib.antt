@@ -1,0 +1,2 @@
+-- Laws that the proofs of the comparison cite.
+pub mod Laws

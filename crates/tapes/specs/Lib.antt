@@ -1,0 +1,3 @@
+-- What the comparison of tapes promises, in the words of the model's tapes.
+pub mod Differences
+pub mod Comparing

@@ -1,0 +1,5 @@
+-- Laws over plain variables, one subject a file.
+pub mod Steps
+pub mod PutIn
+pub mod Single
+pub mod Turn

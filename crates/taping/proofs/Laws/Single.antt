@@ -1,0 +1,116 @@
+-- One step taped, as the code finds it at each return, and the line that it puts in.
+-- Relies on what a step taped can leave and on the contracts of the steps and of the line; the proof of `tape_step`
+-- relies on it.
+use Rattle.model.proofs.Kit.{_≡_, sym, ap, _∙_, Bool, true, false, not, cond, List, [], _∷_, _++_, ℕ, _+_}
+use Rattle.model.proofs.Kit.{_-_, _≤_, _<_, eq-eqb, ne-eqb, length, take, replicate, arith}
+use borrow.Author.Tests.{not-true, not-false}
+use lib.Seq.{take-append-seam}
+use Rattle.model.specs.declared.StepAnswer.{StepAnswer}
+use Rattle.model.specs.Bytes.{splice}
+use Rattle.model.specs.Figure.{Figure}
+use Rattle.model.specs.Filled.{Report}
+use Rattle.model.specs.Listing.{accepted}
+use Rattle.model.specs.Calls.{stepOn}
+use Rattle.model.specs.Runs.{taken, answers, after}
+use Rattle.tape_model.specs.Tape.{Entry, entryText}
+use Rattle.model.specs.Told.{told}
+use Rattle.model.proofs.Basics.Tests.{by-test}
+use Rattle.model.proofs.Calls.Refused.{stepOn-refused}
+use Rattle.shown.specs.declared.line.Line.{Line}
+use Rattle.shown.specs.Puts.{Holds}
+use Rattle.shown.proofs.Rooms.{holds-room}
+use Rattle.accessing.specs.Accessed.{StepsOn}
+use Rattle.stepping.specs.Stepped.{RunsOn}
+use Rattle.tape_writer.proofs.Laws.WritingLength.{line-short}
+use Rattle.taping.specs.declared.Taped.{Taped}
+use Rattle.taping.specs.Taping.{Taping, taping, tapeLine, lineTaken, tapedOne}
+use Rattle.taping.proofs.Laws.Steps.{written, passedOver, entryAt}
+
+-- whether a step was taken, by the case b of its answer a
+pub is-taken : (a b : StepAnswer) (t : Bool) → a ≡ b → t ≡ accepted (told b .did) → t ≡ accepted (told a .did)
+is-taken a b t e q = q ∙ ap (λ (x : StepAnswer). accepted (told x .did)) (sym e)
+
+-- ---- what one step leaves, by its tests
+
+module _ (i : ℕ) (s : Taping) where
+  one-none : s .room ≡ 0 → tapedOne i s ≡ s
+  unfolding tapedOne
+  one-none e = rw (eq-eqb (s .room) 0 e)
+
+  module _ (wanted : s .room ≡ 0 → ⊥) where
+    one-refused : accepted (stepOn i (s .board) .answer .did) ≡ false → tapedOne i s ≡ s
+    unfolding tapedOne
+    one-refused q = rw (ne-eqb (s .room) 0 wanted, q)
+
+    module _ (q : accepted (stepOn i (s .board) .answer .did) ≡ true) where
+      one-passed : (s .left ≡ 0 → ⊥) → tapedOne i s ≡ passedOver (stepOn i (s .board) .bytes) s
+      unfolding tapedOne lineTaken
+      one-passed l = rw (ne-eqb (s .room) 0 wanted, q, ne-eqb (s .left) 0 l)
+
+      one-written : s .left ≡ 0 → tapedOne i s ≡ written (entryAt i (s .board)) (stepOn i (s .board) .bytes) s
+      unfolding tapedOne lineTaken
+      one-written l = rw (ne-eqb (s .room) 0 wanted, q, eq-eqb (s .left) 0 l)
+
+-- ---- the line that is put in
+
+-- a line has the text that it holds in front
+held : (line : Line) (l : List ℕ) → Holds line l → take (line .len) (line .bytes) ≡ l
+held line l h = (λ j. take (h .len j) (h .bytes j)) ∙ take-append-seam l (replicate (512 - length l) 0)
+
+module _ (line : Line) (e : Entry) (h : Holds line (entryText e ++ (10 ∷ []))) where
+  pub line-long : line .len ≤ 55
+  line-long = omega (arith, h .len, line-short e)
+
+  pub line-size : length (line .bytes) ≡ 512
+  line-size = holds-room _ [] h (omega (arith, line-short e)) .size
+
+-- ---- the returns
+
+-- a step counts one at most
+pub counted-few : (i : ℕ) (b : List ℕ) (r : ℕ) (d : List ℕ) → RunsOn (i ∷ []) b r d → r ≤ 1
+unfolding RunsOn
+counted-few i b r d h = h .1
+
+module _ (i : ℕ) (b out : List ℕ) (t : Taped) where
+  pub none-wanted : t .room ≡ 0 → taping b out t ≡ tapedOne i (taping b out t)
+  none-wanted e = sym (one-none i (taping b out t) e)
+
+  module _ (wanted : t .room ≡ 0 → ⊥) where
+    -- passed over, where r says whether the step was taken
+    pub passed-over : 0 < t .left → (r : ℕ) (d : List ℕ) → RunsOn (i ∷ []) b r d
+        → taping d out (record { left = t .left - r; room = t .room; len = t .len }) ≡ tapedOne i (taping b out t)
+    unfolding RunsOn taken answers after
+    passed-over l r d h =
+        by-test (accepted (stepOn i b .answer .did))
+        (λ y. let one : r ≡ 1 = omega (arith, h .0, ap {B = ℕ} (λ (x : Bool). cond x 1 0) y) in
+        (λ j. taping (h .2 j) out (record { left = t .left - one j; room = t .room; len = t .len }))
+        ∙ sym (one-passed i (taping b out t) wanted y (λ z. omega arith)))
+        (λ n. let left : t .left - r ≡ t .left = omega (arith, h .0, ap {B = ℕ} (λ (x : Bool). cond x 1 0) n) in
+        (λ j. taping ((h .2 ∙ stepOn-refused i b n) j) out (record { left = left j; room = t .room; len = t .len }))
+        ∙ sym (one-refused i (taping b out t) wanted n))
+
+    module _ (none-left : t .left ≤ 0) (a : StepAnswer) (d : List ℕ) (h : StepsOn i b a d) (q : Bool)
+        (told-by : q ≡ accepted (told a .did)) where
+      as-told : accepted (stepOn i b .answer .did) ≡ q
+      unfolding StepsOn
+      as-told = ap (λ (r : Report Figure). accepted (r .did)) (sym (h .0)) ∙ sym told-by
+
+      pub step-refused : not q ≡ true → taping d out t ≡ tapedOne i (taping b out t)
+      unfolding StepsOn
+      step-refused n =
+          let no = as-told ∙ not-true q n in
+          (λ j. taping ((h .1 ∙ stepOn-refused i b no) j) out t) ∙ sym (one-refused i (taping b out t) wanted no)
+
+      pub line-put : not q ≡ false → (line : Line)
+          → Holds line (entryText (record { station = i; report = told a }) ++ (10 ∷ []))
+          → (now : List ℕ) → now ≡ splice (t .len) (take (line .len) (line .bytes)) out
+          → taping d now (record { left = 0; room = t .room - 1; len = t .len + line .len })
+          ≡ tapedOne i (taping b out t)
+      unfolding StepsOn tapeLine
+      line-put n line holds now e =
+          let line-is : entryText (record { station = i; report = told a }) ++ (10 ∷ []) ≡ tapeLine (entryAt i b) =
+          ap (λ (r : Report Figure). entryText (record { station = i; report = r }) ++ (10 ∷ [])) (h .0) in
+          let put = e ∙ ap (λ (l : List ℕ). splice (t .len) l out) (held line _ holds ∙ line-is) in
+          let long = holds .len ∙ ap length line-is in
+          (λ j. taping (h .1 j) (put j) (record { left = 0; room = t .room - 1; len = t .len + long j }))
+          ∙ sym (one-written i (taping b out t) wanted (as-told ∙ not-false q n) (omega arith))
