@@ -12,7 +12,7 @@ use Rattle.model.specs.Filled.{Report}
 use Rattle.model.specs.Layout.{boardLength}
 use Rattle.model.specs.Calls.{step}
 use Rattle.model.specs.Show.{text, decimal, signed}
-use Rattle.model.specs.Forms.{Read, andThen, spaced, numberIn, figureIn, same, closing, WordRow, rowIn, upToStop}
+use Rattle.model.specs.Forms.{andThen, spaced, numberIn, figureIn, same, closing, WordRow, rowIn, upToStop}
 use Rattle.model.specs.Forms.{readLine}
 use Rattle.model.specs.Sheet.{Played, playLine, linesOf}
 use Rattle.model.specs.AnyList.{Call, laying, proposing, stepping, called}

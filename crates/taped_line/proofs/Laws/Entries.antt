@@ -1,19 +1,18 @@
 -- Steps taped are the entries of their single calls taped, and leave the board of those calls while lines are wanted.
 -- Relies on steps of a sound board; the laws of a taped line rely on it.
 use Rattle.model.proofs.Kit.{_≡_, refl, sym, ap, subst, _∙_, Bool, true, false, cond, List, [], _∷_, _++_, map, none, some, ℕ}
-use Rattle.model.proofs.Kit.{_-_, _+_, _≤_, _<_, eq-eqb, eqb, eqb-true, eqb-false, length, arith}
-use Rattle.model.specs.Bytes.{splice}
+use Rattle.model.proofs.Kit.{_-_, _+_, _≤_, eq-eqb, eqb, eqb-true, eqb-false, arith}
 use Rattle.model.specs.Figure.{Figure}
 use Rattle.model.specs.Listing.{accepted, outcome}
 use Rattle.model.specs.Filled.{Report, refusal}
 use Rattle.model.specs.Calls.{After, Refusal, boardRefusal, unlessRefused, step, stepOn}
-use Rattle.model.specs.AnyList.{Call, stepping, called, after}
+use Rattle.model.specs.AnyList.{stepping, called, after}
 use Rattle.tape_model.specs.Tape.{Entry, entryOf, tapeOf}
 use Rattle.model.proofs.Basics.Tests.{by-test}
-use Rattle.model.proofs.Calls.Refusals.{Board, board-of, board-passes, step-on}
+use Rattle.model.proofs.Calls.Refusals.{Board, step-on}
 use Rattle.model.proofs.Calls.Refused.{stepOn-refused}
 use Rattle.model.proofs.Calls.CallsKeep.{step-keeps}
-use Rattle.taping.specs.Taping.{Taping, tapeLine, lineTaken, tapedOne, tapedSteps}
+use Rattle.taping.specs.Taping.{Taping, lineTaken, tapedOne, tapedSteps}
 use Rattle.taped_line.specs.TapedLines.{entryTaped, entriesTaped}
 
 -- the buffer's side alone

@@ -1,29 +1,25 @@
 -- What a line adds to the tape by its form, and the memory that it leaves.
 -- Relies on steps and their entries and on the model's played lines; the proofs of a taped line rely on it.
-use Rattle.model.proofs.Kit.{_≡_, refl, sym, ap, subst, _∙_, Bool, true, false, cond, List, [], _∷_, _++_, map, none}
-use Rattle.model.proofs.Kit.{some, ℕ, _≤_, _<_, leb, le-leb, lt-leb, leb-true, eqb, eqb-true, eqb-false, length, take}
-use Rattle.model.proofs.Kit.{drop, Option, arith}
+use Rattle.model.proofs.Kit.{_≡_, refl, sym, ap, subst, _∙_, List, [], _∷_, _++_, none}
+use Rattle.model.proofs.Kit.{some, ℕ, leb, eqb, eqb-true, eqb-false, length, take}
+use Rattle.model.proofs.Kit.{drop, Option}
 use Prim.Native.Nat.{min}
 use Rattle.model.specs.Figure.{Figure}
-use Rattle.model.specs.Calls.{After, RunAnswer, unless, unlessRefused, shapeRefusal, boardRefusal, run}
+use Rattle.model.specs.Calls.{After, unless, unlessRefused, shapeRefusal, boardRefusal, run}
 use Rattle.model.specs.Rounds as byRound
-use Rattle.model.specs.Rounds.{RoundsAnswer, roundsRefusal, roundsSteps}
+use Rattle.model.specs.Rounds.{roundsRefusal}
 use Rattle.model.specs.Proposals.{Proposal, proposalsRefusal}
 use Rattle.model.specs.Forms.{Form, Items, expand, Reading, reads, unread, readLine}
 use Rattle.model.specs.Forms as forms
 use Rattle.model.specs.Sheet.{Played, turnedDown, onBoard, playForm, playReading, playLine}
-use Rattle.model.specs.AnyList.{Call, proposing, stepping, called, after}
+use Rattle.model.specs.AnyList.{after}
 use Rattle.model.specs.SheetList.{singles, formCalls, callsOf}
-use Rattle.tape_model.specs.Tape.{Entry, entryOf, tapeOf}
-use Rattle.model.proofs.Basics.Tests.{by-test, cond-case}
-use Rattle.model.proofs.Calls.Refusals.{board-of}
-use Rattle.model.proofs.Sheet.PlayedLines.{no-board, on-board, run-leaves, rounds-leave, steps-refused}
+use Rattle.tape_model.specs.Tape.{entryOf, tapeOf}
+use Rattle.model.proofs.Basics.Tests.{by-test}
+use Rattle.model.proofs.Sheet.PlayedLines.{no-board, on-board, run-leaves, rounds-leave}
 use Rattle.player.proofs.Laws.Parts.{part-taken, part-left}
 use Rattle.taping.specs.declared.Taped.{Taped}
-use Rattle.taping.specs.Taping.{Taping, taping, tapedSteps}
-use Rattle.taped_line.specs.declared.TapedLine.{TapedLine}
-use Rattle.taped_line.specs.TapedLines.{entriesTaped, window, CallsTaped, LineCallsTaped, lineTape, LineTaped}
-use Rattle.taped_line.proofs.Laws.Entries.{blank, steps-entries, steps-board, steps-untaped}
+use Rattle.taped_line.specs.TapedLines.{CallsTaped, LineCallsTaped, lineTape, LineTaped}
 
 -- ---- a line on the board that was laid
 

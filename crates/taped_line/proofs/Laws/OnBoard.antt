@@ -1,15 +1,14 @@
 -- A line of steps and a line of rounds on a lent board: what is taped at each return.
 -- Relies on steps and their entries, on where items and rounds stand in a line and on what refuses them; the proofs of
 -- `steps_on` and `rounds_on` rely on it.
-use Rattle.model.proofs.Kit.{_≡_, refl, sym, ap, subst, _∙_, cond, List, [], map, none, some, Option, ℕ, _+_, _≤_, _<_}
-use Rattle.model.proofs.Kit.{leb, le-leb, lt-leb, length, drop, arith}
+use Rattle.model.proofs.Kit.{_≡_, refl, sym, ap, subst, _∙_, List, [], map, none, some, Option, ℕ, _+_, _≤_, _<_}
+use Rattle.model.proofs.Kit.{le-leb, lt-leb, length, arith}
 use Rattle.model.specs.declared.Verdict.{Verdict}
 use Rattle.model.specs.declared.Verdict.the-variants as verdicts
 use Rattle.model.specs.Calls.{boardRefusal, stations}
 use Rattle.model.specs.Rounds.{roundsRefusal, roundsSteps}
-use Rattle.model.specs.Forms.{Form, Items, expand, Reading, reads, readLine}
+use Rattle.model.specs.Forms.{Items, expand, reads, readLine}
 use Rattle.model.specs.Forms as forms
-use Rattle.model.specs.Grammar.{writtenItems}
 use Rattle.model.specs.AnyList.{Call, stepping, after}
 use Rattle.model.specs.SheetList.{formCalls, callsOf}
 use Rattle.tape_model.specs.Tape.{tapeOf}

@@ -1,6 +1,6 @@
 -- A line that takes no step: the tape stays as it is, and the memory is that of the line played.
 -- Relies on the reading that a form of the code came from; the proof of `tape_line` relies on it.
-use Rattle.model.proofs.Kit.{_≡_, sym, ap, _∙_, List, none, ℕ, _+_, _*_, _≤_, length}
+use Rattle.model.proofs.Kit.{_≡_, sym, ap, _∙_, List, none, ℕ}
 use Rattle.model.specs.Calls.{boardRefusal}
 use Rattle.model.specs.Figure.{Figure}
 use Rattle.model.specs.Forms.{wordPlace, readLine}
@@ -11,7 +11,7 @@ use Rattle.sheet.specs.declared.form.LineForm.the-variants.{Board, Propose, Ste
 use Rattle.sheet.specs.LineForms.{lineForm}
 use Rattle.sheet.proofs.Laws.Readings.{read-as}
 use Rattle.taping.specs.declared.Taped.{Taped}
-use Rattle.taping.specs.Taping.{Taping, taping, Ready}
+use Rattle.taping.specs.Taping.{taping, Ready}
 use Rattle.taped_line.specs.declared.TapedLine.{TapedLine}
 use Rattle.taped_line.specs.TapedLines.{entriesTaped, window, Room, LineTaped}
 use Rattle.taped_line.proofs.Laws.Lines.{Untaped, untaped-board, untaped-propose, untaped-show, untaped-refused}

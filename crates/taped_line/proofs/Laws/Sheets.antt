@@ -1,7 +1,7 @@
 -- The tape of a sheet from a line on, by the board in force there.
 -- Relies on the model's tape of lines; the algorithm's own line and the tape of a sheet rely on it.
-use Rattle.model.proofs.Kit.{_≡_, refl, ap, _∙_, List, [], _∷_, _++_, ℕ, _+_, _<_, length, drop}
-use Rattle.model.specs.Sheet.{Played, playLine, linesOf}
+use Rattle.model.proofs.Kit.{_≡_, refl, ap, _∙_, List, [], _∷_, _++_, ℕ, _+_}
+use Rattle.model.specs.Sheet.{Played, playLine}
 use Rattle.model.specs.SheetList.{boardOf}
 use Rattle.tape_model.specs.Tape.{Entry, linesTape}
 use Rattle.taped_line.specs.TapedLines.{lineTape}

@@ -1,6 +1,6 @@
 -- `steps_on` meets its contract: 6 and the board's own refusals add nothing, and else the items are taped.
 -- Relies on the laws of a line on a board.
-use Rattle.model.proofs.Kit.{needs, arith}
+use Rattle.model.proofs.Kit.{needs}
 use Rattle.soundness.proofs.Laws.Checked.{passed}
 use Rattle.line_run.proofs.Laws.Counting.{line-items}
 use Rattle.taped_line.proofs.Laws.OnBoard.{too-many, steps-turned, steps-taped}

@@ -1,6 +1,6 @@
 -- A line takes no more steps than a number of 32 bits counts by far: 65,536 for `steps`, and what 255 rounds can take.
 -- Relies on the single calls of a line; the laws of a part rely on it.
-use Rattle.model.proofs.Kit.{_≡_, refl, ap, Bool, cond, List, [], _∷_, _++_, map, none}
+use Rattle.model.proofs.Kit.{_≡_, refl, ap, Bool, cond, List, [], _∷_, map, none}
 use Rattle.model.proofs.Kit.{some, Option, ℕ, zero, suc, _+_, _*_, _≤_, leb, leb-true, length, take, replicate}
 use Rattle.model.proofs.Kit.{length-append, arith}
 use lib.ListN.{length-replicate, length-map}

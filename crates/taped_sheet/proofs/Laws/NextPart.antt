@@ -4,14 +4,12 @@ use Rattle.model.proofs.Kit.{_≡_, refl, sym, ap, subst, _∙_, List, ℕ, _+_
 use Rattle.model.proofs.Kit.{lt-ltb, le-ltb, length, take, drop, take-all, length-drop, zero-add, w64, Fits, arith}
 use lib.Seq.{length-take-le, take-append-seam}
 use Rattle.model.specs.Bytes.{splice}
-use Rattle.model.specs.Sheet.{playLine, linesOf}
+use Rattle.model.specs.Sheet.{playLine}
 use Rattle.tape_model.specs.Tape.{Entry}
 use Rattle.lines.specs.Ends.{LineEnd}
-use Rattle.taping.specs.declared.Taped.{Taped}
 use Rattle.taping.specs.Taping.{slot}
 use Rattle.taped_line.specs.declared.TapedLine.{TapedLine}
 use Rattle.taped_line.specs.TapedLines.{window, Room, lineTape, LineTaped}
-use Rattle.taped_sheet.specs.declared.SheetPart.{SheetPart}
 use Rattle.taped_sheet.specs.SheetParts.{textOf, Part, lineParts, partAt, mostSteps, PartIs}
 use Rattle.taped_sheet.proofs.Laws.Windows.{Put, put}
 use Rattle.taped_sheet.proofs.Laws.Few.{line-few}

@@ -1,12 +1,11 @@
 -- The parts of a tape one after another are the tape of the sheet, and each part leads on.
 -- Relies on the definition of a part; it proves `TapeWritten`, and the proof of the program relies on `falls`.
-use Rattle.model.proofs.Kit.{_≡_, refl, sym, ap, subst, _∙_, cond, List, [], _∷_, _++_, map, append-assoc, ℕ, zero, suc}
+use Rattle.model.proofs.Kit.{_≡_, refl, sym, ap, subst, _∙_, cond, List, [], _∷_, _++_, append-assoc, ℕ, zero, suc}
 use Rattle.model.proofs.Kit.{_+_, _*_, _-_, _≤_, _<_, leb, leb-true, leb-false, ltb, ltb-true, ltb-false, lt-ltb, le-ltb, length, take, drop}
 use Rattle.model.proofs.Kit.{replicate, length-append, length-drop, take-append-drop, drop-drop, arith}
-use mathlib.Core.List.{map-append}
 use lib.Seq.{drop-nil, drop-append-le, take-append-le}
 use Rattle.model.specs.Layout.{boardLength}
-use Rattle.model.specs.Sheet.{Played, playLine, linesOf}
+use Rattle.model.specs.Sheet.{playLine, linesOf}
 use Rattle.tape_model.specs.Tape.{Entry, entryText, linesTape, begun, sheetTape, tapeText}
 use Rattle.model.proofs.Basics.Ended.{front, parts-at, no-parts}
 use Rattle.model.proofs.Basics.Tests.{by-test, cond-case}

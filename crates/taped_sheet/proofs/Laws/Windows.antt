@@ -1,6 +1,6 @@
 -- What entries leave in the buffer: the lines behind those that are passed over, as many as are wanted.
 -- Relies on entries taped; the laws of a part rely on it.
-use Rattle.model.proofs.Kit.{_≡_, refl, sym, ap, subst, _∙_, List, [], _∷_, _++_, map, append-assoc, ℕ, zero, suc, _+_, _-_}
+use Rattle.model.proofs.Kit.{_≡_, refl, sym, ap, subst, _∙_, List, [], _∷_, _++_, append-assoc, ℕ, zero, suc, _+_, _-_}
 use Rattle.model.proofs.Kit.{ne-eqb, length, take, drop, length-append, arith}
 use lib.Seq.{drop-nil}
 use Rattle.model.specs.Bytes.{splice}

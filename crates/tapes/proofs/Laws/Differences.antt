@@ -1,7 +1,7 @@
 -- Two tapes line by line: what is known where the next lines begin, as long as all lines were alike.
 -- Relies on where a line ends; the proof of `first_difference` relies on it.
-use Rattle.model.proofs.Kit.{_≡_, refl, sym, ap, subst, _∙_, Bool, true, false, not, cond, List, [], _∷_, none, some, Option}
-use Rattle.model.proofs.Kit.{ℕ, zero, suc, _+_, _-_, _≤_, _<_, length, take, drop, length-drop, zero-add, arith}
+use Rattle.model.proofs.Kit.{_≡_, refl, sym, ap, subst, _∙_, Bool, true, false, not, cond, List, [], _∷_, none, some}
+use Rattle.model.proofs.Kit.{ℕ, suc, _+_, _-_, _≤_, _<_, length, take, drop, length-drop, zero-add, arith}
 use lib.Seq.{length-take-le}
 use Rattle.model.specs.Forms.{same}
 use Rattle.model.specs.Sheet.{linesOf}

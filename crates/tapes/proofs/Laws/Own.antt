@@ -1,19 +1,18 @@
 -- The algorithm's own line with a number, looked for on one line of a sheet after another: how many lines are still to
 -- be passed over where the next line begins.
 -- Relies on the entries of a taped line; the proof of `culprit_of` relies on it.
-use Rattle.model.proofs.Kit.{_≡_, refl, sym, ap, subst, _∙_, List, [], _∷_, _++_, map, none, some, Option, ℕ, zero, suc}
+use Rattle.model.proofs.Kit.{_≡_, refl, sym, ap, _∙_, List, [], _∷_, _++_, map, none, some, Option, ℕ, zero, suc}
 use Rattle.model.proofs.Kit.{_+_, _-_, _≤_, _<_, length, take, drop, replicate, append-assoc, length-append, zero-add, ne-eqb, arith}
 use mathlib.Core.List.{map-append}
 use lib.Seq.{take-append-seam, length-take-le}
 use Rattle.tape_model.specs.declared.Tap.the-variants as tap
 use Rattle.model.specs.Bytes.{splice}
 use Rattle.model.specs.Layout.{boardLength}
-use Rattle.model.specs.Sheet.{Played, playLine, linesOf}
+use Rattle.model.specs.Sheet.{playLine, linesOf}
 use Rattle.tape_model.specs.Tape.{Entry, entryText, linesTape, begun, sheetTape, ownLines, lineAt, Tap, culprit}
 use Rattle.tape_model.specs.TapeTold.{tapTold}
 use Rattle.model.proofs.Basics.Ended.{no-parts}
 use Rattle.tape_writer.proofs.Laws.WritingLength.{line-short}
-use Rattle.taping.specs.declared.Taped.{Taped}
 use Rattle.taping.specs.Taping.{Taping, tapeLine, lineTaken, slot}
 use Rattle.taped_line.specs.declared.TapedLine.{TapedLine}
 use Rattle.taped_line.specs.TapedLines.{entryTaped, entriesTaped, Room, lineTape, LineTaped}

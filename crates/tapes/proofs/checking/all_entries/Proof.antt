@@ -1,6 +1,6 @@
 -- `all_entries` meets its contract: the loop keeps that all lines before its place are step answers.
 -- Relies on the laws of a tape tested line by line.
-use Rattle.model.proofs.Kit.{_-_, needs, length, arith}
+use Rattle.model.proofs.Kit.{_-_, needs, length}
 use Rattle.tapes.proofs.Laws.Checking.{Checked, checked-begun, checked-all, checked-more, not-checked}
 use Rattle.tapes.proofs.checking.all_entries.Statement.{statement}
 use Rattle.tapes.proofs.checking.all_entries.Tie as tie

@@ -1,6 +1,6 @@
 -- `compare` meets its contract: refusals 1 and 21, no difference, and the culprit's line on either tape.
 -- Relies on the laws of the comparison.
-use Rattle.model.proofs.Kit.{needs, arith}
+use Rattle.model.proofs.Kit.{needs}
 use Rattle.tapes.proofs.Laws.Comparing.{too-long, first-untaped, second-untaped, never-differ, first-order}
 use Rattle.tapes.proofs.Laws.Comparing.{first-inside, second-order, some-number, culprit-first, culprit-second}
 use Rattle.tapes.proofs.comparing.compare.Statement.{statement}

@@ -1,6 +1,6 @@
 -- `culprit_of` meets its contract: the loop keeps which line of the tape from its place on is looked for.
 -- Relies on the laws of the algorithm's own line.
-use Rattle.model.proofs.Kit.{_≡_, _-_, needs, length, arith}
+use Rattle.model.proofs.Kit.{_≡_, _-_, needs, length}
 use Rattle.tapes.proofs.Laws.Own.{Looking, looking-begun, own-room, own-some, own-fits, own-width, own-blamed}
 use Rattle.tapes.proofs.Laws.Own.{own-missing, own-later}
 use Rattle.tapes.proofs.culprit.culprit_of.Statement.{statement}
