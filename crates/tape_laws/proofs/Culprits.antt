@@ -3,7 +3,7 @@
 use Rattle.model.proofs.Kit.{_≡_, refl, sym, ap, _∙_, true, false, List, [], _∷_, some, ℕ, zero, suc}
 use Rattle.model.specs.Forms.{same}
 use Rattle.model.specs.Sheet.{linesOf}
-use Rattle.tape_model.specs.Tape.{lineAt, ownLines, isEntry, taped, culprit}
+use Rattle.model.specs.Tape.{lineAt, ownLines, isEntry, taped, culprit}
 use Rattle.model.proofs.Basics.Tests.{true-T, by-test, both-true}
 use Rattle.model.proofs.Sheet.WrittenBack.{same-text, same-self}
 use Rattle.tape_laws.specs.TapeLines.{OwnTaped, OwnWritten}

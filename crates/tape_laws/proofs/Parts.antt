@@ -5,7 +5,7 @@ use Rattle.model.proofs.Kit.{_≡_, refl, sym, ap, _∙_, true, List, [], _∷_
 use Rattle.model.proofs.Kit.{length, take, drop, drop-drop, arith}
 use Rattle.model.specs.Bytes.{Each, endedBy}
 use Rattle.model.specs.Sheet.{linesOf}
-use Rattle.tape_model.specs.Tape.{lineAt, lineStart, isEntry, entryIn, taped, Tap, first, second, partOf, culpritPart}
+use Rattle.model.specs.Tape.{lineAt, lineStart, isEntry, entryIn, taped, Tap, first, second, partOf, culpritPart}
 use Rattle.model.proofs.Basics.Ended.{front, parts-at}
 use Rattle.model.proofs.Basics.Tests.{clash, cond-case}
 use Rattle.tape_laws.specs.TwoTapes.{tapeBy, PartStands, CulpritStands}

@@ -4,12 +4,12 @@
 ghost use mathlib.Core.Path.{_≡_};
 ghost use mathlib.Core.Option.{some};
 ghost use Prim.Native.Nat.{_≤_};
-ghost use Rattle.tape_model.specs.Tape as tape;
-ghost use Rattle.tape_model.specs.Tape.{lineAt, ownLines};
-ghost use Rattle.tape_model.specs.TapeTold.{tapTold};
+ghost use Rattle.model.specs.Tape as tape;
+ghost use Rattle.model.specs.Tape.{lineAt, ownLines};
+ghost use Rattle.model.specs.Told.{tapTold};
 use check::same;
 use lines::line_end;
-use tape_model::Tap;
+use model::Tap;
 use taped_line::tape_line;
 use taping::Taped;
 

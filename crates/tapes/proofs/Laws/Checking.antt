@@ -2,10 +2,10 @@
 -- Relies on where a line ends; the proofs of `all_entries` and `blamed` rely on it.
 use Rattle.model.proofs.Kit.{_≡_, refl, sym, ap, _∙_, Bool, true, false, not, _&&_, cond, List, some, ℕ, _+_, _-_, _≤_}
 use Rattle.model.proofs.Kit.{_<_, length, take, drop}
-use Rattle.tape_model.specs.declared.Tap.the-variants as tap
+use Rattle.model.specs.declared.Tap.the-variants as tap
 use Rattle.model.specs.Sheet.{linesOf}
-use Rattle.tape_model.specs.Tape.{first, second, isEntry, taped, culprit}
-use Rattle.tape_model.specs.TapeTold.{tapTold}
+use Rattle.model.specs.Tape.{first, second, isEntry, taped, culprit}
+use Rattle.model.specs.Told.{tapTold}
 use Rattle.model.proofs.Basics.Ended.{no-parts}
 use Rattle.lexer.proofs.Laws.Words.{same-says}
 use Rattle.lines.specs.Ends.{LineEnd}

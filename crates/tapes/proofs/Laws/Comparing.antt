@@ -3,14 +3,14 @@
 use Rattle.model.proofs.Kit.{_≡_, refl, sym, ap, subst, _∙_, Bool, true, false, not, _&&_, List, [], _∷_, none, some}
 use Rattle.model.proofs.Kit.{ℕ, zero, suc, _-_, _≤_, _<_, le-leb, lt-leb, length, take, drop, length-drop, arith}
 use lib.Seq.{length-take-le}
-use Rattle.tape_model.specs.declared.Tap as taps
-use Rattle.tape_model.specs.declared.Tap.the-variants as tap
-use Rattle.tape_model.specs.declared.Comparison.{Comparison}
-use Rattle.tape_model.specs.declared.Comparison.the-variants.{Alike, Differ, Refused}
+use Rattle.model.specs.declared.Tap as taps
+use Rattle.model.specs.declared.Tap.the-variants as tap
+use Rattle.model.specs.declared.Comparison.{Comparison}
+use Rattle.model.specs.declared.Comparison.the-variants.{Alike, Differ, Refused}
 use Rattle.model.specs.Sheet.{linesOf}
-use Rattle.tape_model.specs.Tape.{Tap, first, second, differs, TapePart, emptyPart, partOf}
-use Rattle.tape_model.specs.Tape.{ownLines, lineAt, lineStart, culprit, taped, compare, culpritPart}
-use Rattle.tape_model.specs.TapeTold.{tapTold, comparisonTold, startTold, lengthTold}
+use Rattle.model.specs.Tape.{Tap, first, second, differs, TapePart, emptyPart, partOf}
+use Rattle.model.specs.Tape.{ownLines, lineAt, lineStart, culprit, taped, compare, culpritPart}
+use Rattle.model.specs.Told.{tapTold, comparisonTold, startTold, lengthTold}
 use Rattle.tapes.specs.declared.difference.Gap.{Gap}
 use Rattle.tapes.specs.declared.difference.Gap.the-variants.{Nowhere, At}
 use Rattle.tapes.specs.Differences.{Stands, GapIs}

@@ -5,7 +5,7 @@ use Rattle.model.proofs.Kit.{ℕ, suc, _+_, _-_, _≤_, _<_, length, take, drop
 use lib.Seq.{length-take-le}
 use Rattle.model.specs.Forms.{same}
 use Rattle.model.specs.Sheet.{linesOf}
-use Rattle.tape_model.specs.Tape.{lineAt, lineStart, differFrom}
+use Rattle.model.specs.Tape.{lineAt, lineStart, differFrom}
 use Rattle.model.proofs.Basics.Ended.{no-parts}
 use Rattle.lexer.proofs.Laws.Words.{same-says}
 use Rattle.lines.specs.Ends.{LineEnd}

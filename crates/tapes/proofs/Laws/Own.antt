@@ -5,12 +5,12 @@ use Rattle.model.proofs.Kit.{_≡_, refl, sym, ap, _∙_, List, [], _∷_, _++_
 use Rattle.model.proofs.Kit.{_+_, _-_, _≤_, _<_, length, take, drop, replicate, append-assoc, length-append, zero-add, ne-eqb, arith}
 use mathlib.Core.List.{map-append}
 use lib.Seq.{take-append-seam, length-take-le}
-use Rattle.tape_model.specs.declared.Tap.the-variants as tap
+use Rattle.model.specs.declared.Tap.the-variants as tap
 use Rattle.model.specs.Bytes.{splice}
 use Rattle.model.specs.Layout.{boardLength}
 use Rattle.model.specs.Sheet.{playLine, linesOf}
-use Rattle.tape_model.specs.Tape.{Entry, entryText, linesTape, begun, sheetTape, ownLines, lineAt, Tap, culprit}
-use Rattle.tape_model.specs.TapeTold.{tapTold}
+use Rattle.model.specs.Tape.{Entry, entryText, linesTape, begun, sheetTape, ownLines, lineAt, Tap, culprit}
+use Rattle.model.specs.Told.{tapTold}
 use Rattle.model.proofs.Basics.Ended.{no-parts}
 use Rattle.tape_writer.proofs.Laws.WritingLength.{line-short}
 use Rattle.taping.specs.Taping.{Taping, tapeLine, lineTaken, slot}
