@@ -17,10 +17,10 @@ use taping::Taped;
 fn blamed(line: &[u8], own: &[u8]) -> Tap
     ensures { λ r. ⌜ tapTold r ≡ tape.culprit (some (now (own .entry))) (some (now (line .entry))) ⌝ }
 {
-    if same(line, own) {
-        return Tap::Second;
+    if !same(line, own) {
+        return Tap::First;
     }
-    Tap::First
+    Tap::Second
 }
 
 // `line` is the first tape's line with the number. The algorithm's own line is put into `own` with its LF, for which the largest

@@ -40,10 +40,10 @@ module _ (tape : List ℕ) (at : ℕ) (so-far : Checked tape at) where
 -- ---- the blame
 
 module _ (l o : List ℕ) (r : Bool) (says : (r ≡ true → l ≡ o) × (l ≡ o → r ≡ true)) where
-  pub blames-second : r ≡ true → tapTold tap.Second ≡ culprit (some o) (some l)
+  pub blames-second : not r ≡ false → tapTold tap.Second ≡ culprit (some o) (some l)
   unfolding tapTold culprit
-  blames-second e = sym (ap (λ (t : Bool). cond t second first) (same-says l o r true says e))
+  blames-second e = sym (ap (λ (t : Bool). cond t second first) (same-says l o r true says (like r e)))
 
-  pub blames-first : r ≡ false → tapTold tap.First ≡ culprit (some o) (some l)
+  pub blames-first : not r ≡ true → tapTold tap.First ≡ culprit (some o) (some l)
   unfolding tapTold culprit
-  blames-first e = sym (ap (λ (t : Bool). cond t second first) (same-says l o r false says e))
+  blames-first e = sym (ap (λ (t : Bool). cond t second first) (same-says l o r false says (unlike r e)))
