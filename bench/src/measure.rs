@@ -3,7 +3,8 @@
 
 use crate::direct::Direct;
 use crate::work::{cases, Call, Case, SIZES};
-use reference::engine::{Engine, Linked, Reference, SHOWN};
+use reference::engine::{Engine, Reference, SHOWN};
+use reference::linked::Linked;
 use reference::sheet;
 use std::hint::black_box;
 use std::time::Instant;
