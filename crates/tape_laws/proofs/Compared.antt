@@ -4,7 +4,8 @@ use Rattle.model.proofs.Kit.{_≡_, refl, sym, ap, subst, _∙_, true, false, _
 use Rattle.model.proofs.Kit.{zero, suc, _+_, _≤_, _<_, le-leb, leb-true, leb, length, arith}
 use Rattle.model.specs.Forms.{same}
 use Rattle.model.specs.Sheet.{linesOf}
-use Rattle.tape_model.specs.Tape.{lineAt, differFrom, ownLines, taped, Tap, culprit, Compared, notCompared, alike, differs}
+use Rattle.tape_model.specs.Tape.{lineAt, differFrom, ownLines, taped, Tap, culprit, Compared, notCompared, alike}
+use Rattle.tape_model.specs.Tape.{differs}
 use Rattle.tape_model.specs.Tape.{compare}
 use Rattle.model.proofs.Basics.Tests.{true-T, by-test, clash, impossible, both-true}
 use Rattle.model.proofs.Sheet.WrittenBack.{same-text, same-self}

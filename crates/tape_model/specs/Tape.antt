@@ -1,6 +1,6 @@
 -- 02, Seven, "Two tapes of one run": the line of a tape, the tape of a run sheet, and two tapes compared.
--- Relies on the calls' answers, on the readers of numbers and on the single calls of a sheet's lines; the calls that
--- compare tapes and the program that writes one rely on it.
+-- Relies on the calls' answers, on the readers of numbers and on the single calls of a sheet's lines; the
+-- comparison of tapes and the tape of a sheet in parts rely on it.
 use Rattle.model.specs.Kit.{Bool, true, false, _&&_, cond, List, [], _∷_, _++_, Option, none, some, ℕ, zero, suc}
 use Rattle.model.specs.Kit.{_+_, eqb, leb, length, drop, replicate}
 use mathlib.Core.List.{map}

@@ -1,2 +1,2 @@
--- Laws that the proofs of the tape of a sheet and of its program cite.
+-- Laws that the proof of the tape of a sheet cites, and that its parts are all of it.
 pub mod Laws

@@ -1,4 +1,4 @@
--- The tape of a sheet in parts: what is written next from a line on, of which some lines of the tape were written before.
+-- The tape of a sheet in parts: what is written next from a line on, some lines of whose tape were written before.
 -- Relies on the tape of a line; the contract of the next part relies on it, and proofs/Laws/Parts.antt proves
 -- `TapeWritten`.
 use mathlib.Core.Path.{_≡_}
@@ -60,13 +60,13 @@ pub record PartIs (p : Part) (r : SheetPart) (o : List ℕ) : Type 0 where
   -- no line takes more steps, so that the parts of its tape come to an end
   pub few : r .done ≤ mostSteps
 
--- The program's loop: parts are written one after another, each from where the one before says to go on, up to the
+-- A program's loop: parts are written one after another, each from where the one before says to go on, up to the
 -- sheet's end. The fuel bounds the parts.
 unfoldable pub tapeAll : (fuel rooms : ℕ) (s : List ℕ) (at done laid : ℕ) (m : List ℕ) → List ℕ
 tapeAll zero rooms s at done laid m = []
 tapeAll (suc k) rooms s at done laid m =
-    cond (ltb at (length s)) (with' (partAt rooms s at done laid m) (λ next done laid m. tapeAll k rooms s next done laid m))
-    []
+    cond (ltb at (length s))
+    (with' (partAt rooms s at done laid m) (λ next done laid m. tapeAll k rooms s next done laid m)) []
   where
     with' : Part → (ℕ → ℕ → ℕ → List ℕ → List ℕ) → List ℕ
     with' p rest = p .text ++ rest (p .next) (p .done) (p .laid) (p .memory)

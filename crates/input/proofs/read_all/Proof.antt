@@ -1,5 +1,5 @@
 -- `read_all` meets its contract: it reads until the end or a full buffer, and what is left of the buffer falls.
--- Relies on what a read and a count promise; the programs rely on its contract.
+-- Relies on what a read and a count promise; the program relies on its contract.
 use mathlib.Core.Path.{_≡_}
 use Prim.Native.Nat.{_≤_, _-_}
 use borrow.Author.Needs.{needs}

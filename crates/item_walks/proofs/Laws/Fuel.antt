@@ -1,5 +1,5 @@
 -- What the model's readers of items read does not depend on their fuel.
--- Relies on the model's items; the laws of items that stand in a line rely on it, whose reads are at fuels of their own.
+-- Relies on the model's items; the laws of items that stand in a line rely on it, whose reads have fuels of their own.
 use Rattle.model.proofs.Kit.{_≡_, refl, subst, Bool, true, false, cond, List, none, some, Option, ℕ, zero, suc, _+_}
 use Rattle.model.proofs.Kit.{eqb, drop, arith}
 use native.Mathlib.Nat.{add-comm}

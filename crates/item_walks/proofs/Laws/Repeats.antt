@@ -1,7 +1,8 @@
 -- An item that repeats items, as it stands in a line: what has been done after some of its repeats, and which of them
 -- are passed over because they would do nothing.
 -- Relies on Items and on the laws of a known number; the crates that go over items rely on it.
-use Rattle.model.proofs.Kit.{_≡_, sym, ap, subst, _∙_, subst₂, Bool, true, false, List, [], _++_, append-assoc, append-nil}
+use Rattle.model.proofs.Kit.{_≡_, sym, ap, subst, _∙_, subst₂, Bool, true, false, List, [], _++_, append-assoc}
+use Rattle.model.proofs.Kit.{append-nil}
 use Rattle.model.proofs.Kit.{some, ℕ, zero, suc, _+_, _-_, _≤_, _<_, length, drop, getD, zero-add, arith}
 use native.Mathlib.Nat.{suc-add}
 use Rattle.model.specs.Forms.{Item, times, Items, repeated, expandItem, expand, Read, found, andThen, numberIn, timesIn}

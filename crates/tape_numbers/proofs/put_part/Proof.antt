@@ -9,5 +9,6 @@ pub put-part-spec : {M : Type 1} → statement M
 put-part-spec =
     tie.close (tie.spec (λ c. search no-room) (λ c. search needs) (λ c. search needs) (λ c. search needs)
     (λ c. search needs) (λ c. search needs) (λ c. search needs) (λ c. search needs) (λ c. search needs)
-    (λ c. search needs) (λ c κs. search needs) (λ c. search needs) (λ c. search (refused-culprit, refused-place)) (λ c. search needs)
+    (λ c. search needs) (λ c κs. search needs) (λ c. search needs) (λ c. search (refused-culprit, refused-place))
+    (λ c. search needs)
     (λ c. search (no-culprit, no-place)) (λ c. search needs) (λ c. search (some-culprit, some-place)))

@@ -1,7 +1,8 @@
 -- `end_fields` meets its contract: a number in its range, a figure and a total, each behind a space, and the
 -- closing bracket.
 use Rattle.model.proofs.Kit.{needs}
-use Rattle.tape_reader.proofs.Laws.ReadingFields.{ends-missed, ends-below, ends-above, ends-no-figure, ends-no-total}
+use Rattle.tape_reader.proofs.Laws.ReadingFields.{ends-missed, ends-below, ends-above, ends-no-figure}
+use Rattle.tape_reader.proofs.Laws.ReadingFields.{ends-no-total}
 use Rattle.tape_reader.proofs.Laws.ReadingFields.{number-within, ends-closes}
 use Rattle.tape_reader.proofs.end_fields.Statement.{statement}
 use Rattle.tape_reader.proofs.end_fields.Tie as tie

@@ -3,7 +3,8 @@ use Rattle.model.proofs.Kit.{needs}
 use Rattle.model.specs.Show.{text, textFrom}
 use Rattle.model.proofs.Basics.Numbers.{landed}
 use Rattle.shown.proofs.Rooms.{room-same}
-use Rattle.tape_writer.proofs.Laws.Writing.{puts-back, wrote-text, read-text, refused-puts, went-text, marked-text}
+use Rattle.tape_writer.proofs.Laws.Writing.{puts-back, wrote-text, read-text, refused-puts, went-text}
+use Rattle.tape_writer.proofs.Laws.Writing.{marked-text}
 use Rattle.tape_writer.proofs.Laws.Writing.{adopted-text, decided-text, spent-text, room-as, puts-as}
 use Rattle.tape_writer.proofs.write_kind.Statement.{statement}
 use Rattle.tape_writer.proofs.write_kind.Tie as tie

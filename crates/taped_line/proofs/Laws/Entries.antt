@@ -1,6 +1,7 @@
 -- Steps taped are the entries of their single calls taped, and leave the board of those calls while lines are wanted.
 -- Relies on steps of a sound board; the laws of a taped line rely on it.
-use Rattle.model.proofs.Kit.{_≡_, refl, sym, ap, subst, _∙_, Bool, true, false, cond, List, [], _∷_, _++_, map, none, some, ℕ}
+use Rattle.model.proofs.Kit.{_≡_, refl, sym, ap, subst, _∙_, Bool, true, false, cond, List, [], _∷_, _++_, map, none}
+use Rattle.model.proofs.Kit.{some, ℕ}
 use Rattle.model.proofs.Kit.{_-_, _+_, _≤_, eq-eqb, eqb, eqb-true, eqb-false, arith}
 use Rattle.model.specs.Figure.{Figure}
 use Rattle.model.specs.Listing.{accepted, outcome}
@@ -88,8 +89,11 @@ steps-entries (i ∷ is) s h =
     by-test (eqb (s .room) 0) (λ r. full (eqb-true (s .room) 0 r))
     (λ r. going (eqb-false (s .room) 0 r) (steps-entries is (tapedOne i s) (one-keeps i s h)))
   where
-    full : s .room ≡ 0 → blank (tapedSteps (i ∷ is) s) ≡ entriesTaped (tapeOf (map stepping (i ∷ is)) (s .board)) (blank s)
-    full r = ap blank (steps-full (i ∷ is) s r) ∙ sym (entries-full (tapeOf (map stepping (i ∷ is)) (s .board)) (blank s) r)
+    full : s .room ≡ 0
+        → blank (tapedSteps (i ∷ is) s) ≡ entriesTaped (tapeOf (map stepping (i ∷ is)) (s .board)) (blank s)
+    full r =
+        ap blank (steps-full (i ∷ is) s r)
+        ∙ sym (entries-full (tapeOf (map stepping (i ∷ is)) (s .board)) (blank s) r)
 
     going : (s .room ≡ 0 → ⊥)
         → blank (tapedSteps is (tapedOne i s))

@@ -41,13 +41,13 @@ module _ {A : Type 0} (laid : ℕ) (m : List ℕ) (say : A → List ℕ) (call :
       (λ e. ap (λ (p : Played). p .memory) (on-board laid m (eqb-false laid 0 e) say call))
 
 -- What a line leaves on any memory is what its single calls leave: so it is with lines of steps and of rounds.
-pub record Steps-only (line : List ℕ) : Type 0 where
+pub record StepsOnly (line : List ℕ) : Type 0 where
   pub board : (laid : ℕ) (m : List ℕ) → playLine laid m line .laid ≡ laid
   pub memory : (laid : ℕ) (m : List ℕ)
       → playLine laid m line .memory ≡ after (callsOf (take laid m) (readLine line)) (take laid m) ++ drop laid m
 
 module _ (line : List ℕ) where
-  pub only-steps : (is : Items) → readLine line ≡ reads (forms.steps is) → Steps-only line
+  pub only-steps : (is : Items) → readLine line ≡ reads (forms.steps is) → StepsOnly line
   unfolding playLine playReading playForm callsOf formCalls
   only-steps is e = record {
     board = λ laid m. ap (λ (r : Reading Form). playReading laid m r .laid) e ∙ same-laid laid m _ _;
@@ -61,7 +61,7 @@ module _ (line : List ℕ) where
       empty = unfold run unlessRefused unless boardRefusal shapeRefusal in
           by-test (leb (length (expand is)) 65536) (λ t. rw t) (λ t. rw t)
 
-  pub only-rounds : (k : ℕ) (rs : List (List ℕ)) → readLine line ≡ reads (forms.rounds k rs) → Steps-only line
+  pub only-rounds : (k : ℕ) (rs : List (List ℕ)) → readLine line ≡ reads (forms.rounds k rs) → StepsOnly line
   unfolding playLine playReading playForm callsOf formCalls
   only-rounds k rs e = record {
     board = λ laid m. ap (λ (r : Reading Form). playReading laid m r .laid) e ∙ same-laid laid m _ _;
@@ -76,7 +76,7 @@ module _ (line : List ℕ) where
 
   -- on the part of the memory that the board is
   module _ (laid : ℕ) (m out : List ℕ) (t r : Taped) (d o : List ℕ) (part : ℕ) (lent : part ≡ min laid (length m))
-      (only : Steps-only line) (calls : LineCallsTaped line (take part m) out t r d o) where
+      (only : StepsOnly line) (calls : LineCallsTaped line (take part m) out t r d o) where
     pub on-part : LineTaped line laid m out t (record { laid = laid; taped = r }) (d ++ drop part m) o
     unfolding LineCallsTaped lineTape
     on-part =
@@ -105,7 +105,8 @@ Untaped line = (laid : ℕ) (m : List ℕ) → lineTape laid m line ≡ []
 module _ (line : List ℕ) where
   by-reading : (r : Reading Form) → readLine line ≡ r → ((b : List ℕ) → tapeOf (callsOf b r) b ≡ []) → Untaped line
   unfolding Untaped lineTape
-  by-reading r e h laid m = ap (λ (q : Reading Form). tapeOf (callsOf (take laid m) q) (take laid m)) e ∙ h (take laid m)
+  by-reading r e h laid m =
+      ap (λ (q : Reading Form). tapeOf (callsOf (take laid m) q) (take laid m)) e ∙ h (take laid m)
 
   pub untaped-board : (n K : ℕ) → readLine line ≡ reads (forms.board n K) → Untaped line
   untaped-board n K e = by-reading _ e (λ b. unfold callsOf formCalls tapeOf in refl)

@@ -30,7 +30,7 @@ use Rattle.taped_items.specs.declared.PartTaped.{PartTaped}
 use Rattle.taped_items.specs.TapedItems.{TapedFrom, ItemsTape}
 use Rattle.taped_rounds.specs.TapedRounds.{RoundsTape}
 use Rattle.taped_line.specs.TapedLines.{entriesTaped, window, CallsTaped, LineCallsTaped}
-use Rattle.taped_line.proofs.Laws.Lines.{Steps-only, only-steps, only-rounds}
+use Rattle.taped_line.proofs.Laws.Lines.{StepsOnly, only-steps, only-rounds}
 use Rattle.taped_line.proofs.Laws.Entries.{blank, steps-entries, steps-board, steps-untaped}
 
 -- ---- single calls
@@ -107,12 +107,12 @@ module _ (line : List ℕ) (at c : ℕ) (counts : LineCounts line at c) (b out :
         (done _ items [] (items-there line at c counts items read) .ran))
 
 -- its single calls are all that it leaves
-pub counted-only : (line : List ℕ) (at c : ℕ) → LineCounts line at c → Steps-only line
+pub counted-only : (line : List ℕ) (at c : ℕ) → LineCounts line at c → StepsOnly line
 counted-only line at c counts = let s = its-items line at c counts in only-steps line (s .0) (s .1)
 
 -- ---- a line of rounds
 
-pub rounds-only : (line : List ℕ) (at count needs : ℕ) → LineHas line at count needs → Steps-only line
+pub rounds-only : (line : List ℕ) (at count needs : ℕ) → LineHas line at count needs → StepsOnly line
 rounds-only line at count needs has =
     let q = its line at count needs has in only-rounds line (q .k) (q .rounds) (q .is)
 

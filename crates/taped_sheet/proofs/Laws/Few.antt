@@ -30,7 +30,8 @@ unfolding entryOf
 one-fewer (calls.laying n K) b = omega arith
 one-fewer (calls.proposing i v) b = omega arith
 one-fewer (calls.stepping i) b =
-    cond-case (λ (es : List Entry). length es ≤ 1) (accepted (step i b .answer .did)) _ [] (λ e. omega arith) (λ e. omega arith)
+    cond-case (λ (es : List Entry). length es ≤ 1) (accepted (step i b .answer .did)) _ [] (λ e. omega arith)
+    (λ e. omega arith)
 
 tape-fewer : (cs : List Call) (b : List ℕ) → length (tapeOf cs b) ≤ length cs
 unfolding tapeOf
@@ -98,12 +99,17 @@ module _ (laid : ℕ) (m line : List ℕ) where
       by (reads (forms.steps is)) e = by-calls _ e (unfold callsOf formCalls in
           cond-case (λ (cs : List Call). length cs ≤ 69632) (leb (length (expand is)) 65536)
           (map stepping (expand is)) []
-          (λ t. omega (arith, leb-true (length (expand is)) 65536 t, length-map (expand is) stepping)) (λ t. omega arith))
+          (λ t. omega (arith, leb-true (length (expand is)) 65536 t, length-map (expand is) stepping))
+          (λ t. omega arith))
       by (reads (forms.rounds k rs)) e = by-calls _ e (unfold callsOf formCalls in
           turned (roundsRefusal k rs (take laid m)) refl)
         where
           turned : (q : Option ℕ) → roundsRefusal k rs (take laid m) ≡ q
-              → length {A = Call} (elim q [ none ↦ map stepping (roundsSteps (stations (take laid m)) rs) | some j ↦ [] ]) ≤ 69632
+              → length {A = Call} (elim q [
+                | none ↦ map stepping (roundsSteps (stations (take laid m)) rs)
+                | some j ↦ []
+              ])
+              ≤ 69632
           turned (some j) f = omega arith
           turned none f =
               omega (

@@ -32,7 +32,8 @@ module _ (line : List ℕ) (done laid : ℕ) (m out : List ℕ) (rooms : ℕ) (r
   abbrev es : List Entry
   es = drop done (lineTape laid m line)
 
-  left-in : Put (lineTape laid m line) (window out (record { left = done; room = rooms; len = 0 })) (window o (r .taped))
+  left-in : Put (lineTape laid m line) (window out (record { left = done; room = rooms; len = 0 }))
+      (window o (r .taped))
   left-in =
       subst (Put (lineTape laid m line) (window out (record { left = done; room = rooms; len = 0 })))
       (sym (taped .taped)) (put (lineTape laid m line) _)
@@ -41,7 +42,8 @@ module _ (line : List ℕ) (done laid : ℕ) (m out : List ℕ) (rooms : ℕ) (r
   len-is = left-in .len ∙ zero-add _
 
   text-is : take (r .taped .len) o ≡ textOf (take rooms es)
-  text-is = (λ j. take (len-is j) (left-in .out j)) ∙ at-front (textOf (take rooms (drop done (lineTape laid m line)))) out
+  text-is =
+      (λ j. take (len-is j) (left-in .out j)) ∙ at-front (textOf (take rooms (drop done (lineTape laid m line)))) out
 
   room-is : r .taped .room ≡ rooms - length es
   room-is = left-in .room

@@ -1,7 +1,8 @@
 -- The parts of a tape one after another are the tape of the sheet, and each part leads on.
--- Relies on the definition of a part; it proves `TapeWritten`, and the proof of the program relies on `falls`.
+-- Relies on the definition of a part; it proves `TapeWritten`; by `falls` a loop over the parts ends.
 use Rattle.model.proofs.Kit.{_≡_, refl, sym, ap, subst, _∙_, cond, List, [], _∷_, _++_, append-assoc, ℕ, zero, suc}
-use Rattle.model.proofs.Kit.{_+_, _*_, _-_, _≤_, _<_, leb, leb-true, leb-false, ltb, ltb-true, ltb-false, lt-ltb, le-ltb, length, take, drop}
+use Rattle.model.proofs.Kit.{_+_, _*_, _-_, _≤_, _<_, leb, leb-true, leb-false, ltb, ltb-true, ltb-false, lt-ltb}
+use Rattle.model.proofs.Kit.{le-ltb, length, take, drop}
 use Rattle.model.proofs.Kit.{replicate, length-append, length-drop, take-append-drop, drop-drop, arith}
 use lib.Seq.{drop-nil, drop-append-le, take-append-le}
 use Rattle.model.specs.Layout.{boardLength}
@@ -102,7 +103,8 @@ module _ (rooms : ℕ) (some-room : 1 ≤ rooms) (s : List ℕ) where
           → tapeAll (suc k) rooms s at done laid m ≡ textOf (drop done (rest s at laid m))
       going h more = rw (lt-ltb at (length s) h)
           (by-part rooms s at done laid m h
-          (λ p. p .text ++ tapeAll k rooms s (p .next) (p .done) (p .laid) (p .memory) ≡ textOf (drop done (rest s at laid m)))
+          (λ p. p .text ++ tapeAll k rooms s (p .next) (p .done) (p .laid) (p .memory)
+          ≡ textOf (drop done (rest s at laid m)))
           finished full)
         where
           l : List ℕ

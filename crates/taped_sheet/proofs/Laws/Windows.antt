@@ -21,7 +21,8 @@ pub record Put (es : List Entry) (s t : Taping) : Type 0 where
   pub room : t .room ≡ s .room - length (drop (s .left) es)
 
 -- nothing is put in
-put-none : (es : List Entry) (s : Taping) → shown es s ≡ [] → s .room ≡ s .room - length (drop (s .left) es) → Put es s s
+put-none : (es : List Entry) (s : Taping) → shown es s ≡ [] → s .room ≡ s .room - length (drop (s .left) es)
+    → Put es s s
 put-none es s e r = record {
   out = sym (ap (λ (l : List ℕ). splice (s .len) l (s .out)) e ∙ splice-none (s .len) (s .out));
   len = omega (arith, ap length e);

@@ -28,7 +28,9 @@ module _ (tape : List ℕ) (at : ℕ) (so-far : Checked tape at) where
       (says : r ≡ isEntry (take (end - at) (drop at tape))) where
     one : taped (linesOf tape) ≡ r && taped (linesOf (drop (end + 1) tape))
     unfolding Checked taped
-    one = so-far ∙ ap taped (ends .lines inside) ∙ ap (λ (t : Bool). t && taped (linesOf (drop (end + 1) tape))) (sym says)
+    one =
+        so-far ∙ ap taped (ends .lines inside)
+        ∙ ap (λ (t : Bool). t && taped (linesOf (drop (end + 1) tape))) (sym says)
 
     pub checked-more : not r ≡ false → Checked tape (end + 1)
     unfolding Checked

@@ -86,7 +86,8 @@ module _ (s a b : List ℕ) where
           pub never-differ : g ≡ Nowhere → Compares s a b Alike
           unfolding GapIs compare comparisonTold startTold lengthTold culpritPart Inside
           never-differ q =
-              empty-handed Alike (rw (le-leb (length s) 32768 short, both, subst (GapIs a b) q gap-is)) refl refl refl tt
+              empty-handed Alike (rw (le-leb (length s) 32768 short, both, subst (GapIs a b) q gap-is)) refl refl refl
+              tt
 
 module _ (a b : List ℕ) (g : Gap) (gap-is : GapIs a b g) (k start e f : ℕ) (at : g ≡ At k start e f) where
   gap : GapIs a b (At k start e f)
@@ -122,7 +123,12 @@ module _ (a b : List ℕ) (g : Gap) (gap-is : GapIs a b g) (k start e f : ℕ) (
     answers : compare s a b ≡ differs k (tapTold t)
     unfolding GapIs compare
     answers =
-        rw (le-leb (length s) 32768 short, both s a b short p is-first taped-first q is-second taped-second, gap .0, first-stands .line) (ap (differs k) (sym says))
+        rw (
+          le-leb (length s) 32768 short,
+          both s a b short p is-first taped-first q is-second taped-second,
+          gap .0,
+          first-stands .line,
+        ) (ap (differs k) (sym says))
 
     pub culprit-first : t ≡ tap.First → Compares s a b (Differ k tap.First start (e - start))
     unfolding comparisonTold startTold lengthTold culpritPart Inside Fits tapeBy tapTold

@@ -2,7 +2,8 @@
 -- be passed over where the next line begins.
 -- Relies on the entries of a taped line; the proof of `culprit_of` relies on it.
 use Rattle.model.proofs.Kit.{_≡_, refl, sym, ap, _∙_, List, [], _∷_, _++_, map, none, some, Option, ℕ, zero, suc}
-use Rattle.model.proofs.Kit.{_+_, _-_, _≤_, _<_, length, take, drop, replicate, append-assoc, length-append, zero-add, ne-eqb, arith}
+use Rattle.model.proofs.Kit.{_+_, _-_, _≤_, _<_, length, take, drop, replicate, append-assoc, length-append, zero-add}
+use Rattle.model.proofs.Kit.{ne-eqb, arith}
 use mathlib.Core.List.{map-append}
 use lib.Seq.{take-append-seam, length-take-le}
 use Rattle.tape_model.specs.declared.Tap.the-variants as tap
@@ -80,7 +81,8 @@ looked (e ∷ es) (suc k) out = by (looked es k out)
 -- ---- the lines of entries in two parts
 
 -- the line is in the first part
-in-first : (ls ms : List (List ℕ)) (k : ℕ) (l : List ℕ) → lineAt (suc k) ls ≡ some l → lineAt (suc k) (ls ++ ms) ≡ some l
+in-first : (ls ms : List (List ℕ)) (k : ℕ) (l : List ℕ) → lineAt (suc k) ls ≡ some l
+    → lineAt (suc k) (ls ++ ms) ≡ some l
 unfolding lineAt
 in-first [] ms k l e = absurd (some-is-none l e)
 in-first (m ∷ ls) ms zero l e = e
@@ -120,77 +122,79 @@ module _ (s : List ℕ) (number at laid : ℕ) (m : List ℕ) (k : ℕ) (looking
   own-missing h l = sym (ap (λ (q : Option (List ℕ)). culprit q (some l)) (looking-ended h))
 
   module _ (end : ℕ) (ends : LineEnd s at end) (inside : at < length s) (own : List ℕ) (r : TapedLine) (d o : List ℕ)
-      (line-taped : LineTaped (take (end - at) (drop at s)) laid m own (record { left = k; room = 1; len = 0 }) r d o) where
-    line : List ℕ
-    line = take (end - at) (drop at s)
+      (line-taped : LineTaped (take (end - at) (drop at s)) laid m own (record { left = k; room = 1; len = 0 }) r d o)
+    where
+      line : List ℕ
+      line = take (end - at) (drop at s)
 
-    entries : List Entry
-    entries = lineTape laid m line
+      entries : List Entry
+      entries = lineTape laid m line
 
-    split : lineAt number (ownLines s)
-        ≡ lineAt (suc k) (map entryText (entries ++ linesTape (linesOf (drop (end + 1) s))
-        (standing (playLine laid m line .laid) (playLine laid m line .memory))))
-    unfolding Looking entries line
-    split =
-        looking ∙ ap (λ (es : List Entry). lineAt (suc k) (map entryText es))
-        (first-line (linesOf (drop at s)) laid m line (linesOf (drop (end + 1) s)) (ends .lines inside))
+      split : lineAt number (ownLines s)
+          ≡ lineAt (suc k) (map entryText (entries ++ linesTape (linesOf (drop (end + 1) s))
+          (standing (playLine laid m line .laid) (playLine laid m line .memory))))
+      unfolding Looking entries line
+      split =
+          looking ∙ ap (λ (es : List Entry). lineAt (suc k) (map entryText es))
+          (first-line (linesOf (drop at s)) laid m line (linesOf (drop (end + 1) s)) (ends .lines inside))
 
-    put : record { board = []; out = o; left = r .taped .left; room = r .taped .room; len = r .taped .len }
-        ≡ entriesTaped entries (wanting own k)
-    unfolding entries line
-    put = line-taped .taped
+      put : record { board = []; out = o; left = r .taped .left; room = r .taped .room; len = r .taped .len }
+          ≡ entriesTaped entries (wanting own k)
+      unfolding entries line
+      put = line-taped .taped
 
-    -- the line was put in
-    own-found : r .taped .room ≡ 0
-        → (1 ≤ r .taped .len) × (r .taped .len ≤ 56)
-        × (lineAt number (ownLines s) ≡ some (take (r .taped .len - 1) o))
-    own-found full = by (looked entries k own)
-      where
-        by : Looked entries k own → (1 ≤ r .taped .len) × (r .taped .len ≤ 56)
-            × (lineAt number (ownLines s) ≡ some (take (r .taped .len - 1) o))
-        by (later l q) = absurd (let w = ap (λ (t : Taping). t .room) (put ∙ q) in omega arith)
-        by (here e is q) =
-            let len = ap (λ (t : Taping). t .len) (put ∙ q) in
-            let long : length (tapeLine e) ≡ length (entryText e) + 1 =
-            unfold tapeLine in length-append (entryText e) (10 ∷ []) in (
-              omega arith,
-              omega (arith, line-short e, length-append (entryText e) (10 ∷ [])),
-              split ∙ ap (lineAt (suc k)) (map-append entryText entries _)
-                  ∙ in-first (map entryText entries) _ k (entryText e) is
-                  ∙ ap some (sym (taken e (r .taped .len) len (ap (λ (t : Taping). t .out) (put ∙ q)))),
-            )
-          where
-            taken : (e : Entry) (n : ℕ) → n ≡ length (tapeLine e) → o ≡ splice 0 (tapeLine e) own
-                → take (n - 1) o ≡ entryText e
-            taken e n h q = unfold splice tapeLine in
-                (λ j. take (width j) (q j)) ∙ ap (take (length (entryText e)))
-                (append-assoc (entryText e) (10 ∷ []) _) ∙ take-append-seam (entryText e) _
-              where
-                width : n - 1 ≡ length (entryText e)
-                width = unfold tapeLine in omega (arith, h, length-append (entryText e) (10 ∷ []))
+      -- the line was put in
+      own-found : r .taped .room ≡ 0
+          → (1 ≤ r .taped .len) × (r .taped .len ≤ 56)
+          × (lineAt number (ownLines s) ≡ some (take (r .taped .len - 1) o))
+      own-found full = by (looked entries k own)
+        where
+          by : Looked entries k own → (1 ≤ r .taped .len) × (r .taped .len ≤ 56)
+              × (lineAt number (ownLines s) ≡ some (take (r .taped .len - 1) o))
+          by (later l q) = absurd (let w = ap (λ (t : Taping). t .room) (put ∙ q) in omega arith)
+          by (here e is q) =
+              let len = ap (λ (t : Taping). t .len) (put ∙ q) in
+              let long : length (tapeLine e) ≡ length (entryText e) + 1 =
+              unfold tapeLine in length-append (entryText e) (10 ∷ []) in (
+                omega arith,
+                omega (arith, line-short e, length-append (entryText e) (10 ∷ [])),
+                split ∙ ap (lineAt (suc k)) (map-append entryText entries _)
+                    ∙ in-first (map entryText entries) _ k (entryText e) is
+                    ∙ ap some (sym (taken e (r .taped .len) len (ap (λ (t : Taping). t .out) (put ∙ q)))),
+              )
+            where
+              taken : (e : Entry) (n : ℕ) → n ≡ length (tapeLine e) → o ≡ splice 0 (tapeLine e) own
+                  → take (n - 1) o ≡ entryText e
+              taken e n h q = unfold splice tapeLine in
+                  (λ j. take (width j) (q j)) ∙ ap (take (length (entryText e)))
+                  (append-assoc (entryText e) (10 ∷ []) _) ∙ take-append-seam (entryText e) _
+                where
+                  width : n - 1 ≡ length (entryText e)
+                  width = unfold tapeLine in omega (arith, h, length-append (entryText e) (10 ∷ []))
 
-    pub own-some : r .taped .room ≡ 0 → 1 ≤ r .taped .len
-    own-some full = own-found full .0
+      pub own-some : r .taped .room ≡ 0 → 1 ≤ r .taped .len
+      own-some full = own-found full .0
 
-    pub own-fits : r .taped .room ≡ 0 → length o ≡ 56 → r .taped .len - 1 ≤ length o
-    own-fits full size = omega (arith, own-found full .1)
+      pub own-fits : r .taped .room ≡ 0 → length o ≡ 56 → r .taped .len - 1 ≤ length o
+      own-fits full size = omega (arith, own-found full .1)
 
-    pub own-width : r .taped .room ≡ 0 → length o ≡ 56 → r .taped .len - 1 ≡ length (take (r .taped .len - 1) o)
-    own-width full size = sym (length-take-le (r .taped .len - 1) o (own-fits full size))
+      pub own-width : r .taped .room ≡ 0 → length o ≡ 56 → r .taped .len - 1 ≡ length (take (r .taped .len - 1) o)
+      own-width full size = sym (length-take-le (r .taped .len - 1) o (own-fits full size))
 
-    pub own-blamed : r .taped .room ≡ 0 → (t : Tap) (l : List ℕ) → t ≡ culprit (some (take (r .taped .len - 1) o)) (some l)
-        → t ≡ culprit (lineAt number (ownLines s)) (some l)
-    own-blamed full t l e = e ∙ ap (λ (q : Option (List ℕ)). culprit q (some l)) (sym (own-found full .2))
+      pub own-blamed : r .taped .room ≡ 0 → (t : Tap) (l : List ℕ)
+          → t ≡ culprit (some (take (r .taped .len - 1) o)) (some l)
+          → t ≡ culprit (lineAt number (ownLines s)) (some l)
+      own-blamed full t l e = e ∙ ap (λ (q : Option (List ℕ)). culprit q (some l)) (sym (own-found full .2))
 
-    -- or it is to be looked for behind this line
-    pub own-later : (r .taped .room ≡ 0 → ⊥) → Looking s number (end + 1) (r .laid) d (r .taped .left)
-    own-later wanted = by (looked entries k own)
-      where
-        by : Looked entries k own → Looking s number (end + 1) (r .laid) d (r .taped .left)
-        by (later l q) = unfold Looking line entries in
-            let some-room : 1 ≤ r .taped .room = omega arith in
-            split ∙ in-second entries _ k l
-            ∙ (λ j. lineAt (suc (ap (λ (t : Taping). t .left) (sym (put ∙ q)) j))
-            (map entryText (linesTape (linesOf (drop (end + 1) s))
-            (standing (sym (line-taped .board some-room) j) (sym (line-taped .memory some-room) j)))))
-        by (here e is q) = absurd (wanted (ap (λ (t : Taping). t .room) (put ∙ q)))
+      -- or it is to be looked for behind this line
+      pub own-later : (r .taped .room ≡ 0 → ⊥) → Looking s number (end + 1) (r .laid) d (r .taped .left)
+      own-later wanted = by (looked entries k own)
+        where
+          by : Looked entries k own → Looking s number (end + 1) (r .laid) d (r .taped .left)
+          by (later l q) = unfold Looking line entries in
+              let some-room : 1 ≤ r .taped .room = omega arith in
+              split ∙ in-second entries _ k l
+              ∙ (λ j. lineAt (suc (ap (λ (t : Taping). t .left) (sym (put ∙ q)) j))
+              (map entryText (linesTape (linesOf (drop (end + 1) s))
+              (standing (sym (line-taped .board some-room) j) (sym (line-taped .memory some-room) j)))))
+          by (here e is q) = absurd (wanted (ap (λ (t : Taping). t .room) (put ∙ q)))

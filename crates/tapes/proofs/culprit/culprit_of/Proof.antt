@@ -17,6 +17,7 @@ pub culprit-of-spec : {M : Type 1} → statement M
 culprit-of-spec =
     tie.close (tie.spec Inv-loop μ-loop (λ c. search needs) (λ c. search looking-begun) (λ c κs. search needs)
     (λ c. search needs) (λ c. search needs) (λ c. search needs) (λ c. search needs) (λ c. search needs)
-    (λ c κs. search own-room) (λ c. search own-some) (λ c. search own-fits) (λ c. search own-width) (λ c κs. search needs)
+    (λ c κs. search own-room) (λ c. search own-some) (λ c. search own-fits) (λ c. search own-width)
+    (λ c κs. search needs)
     (λ c. search own-blamed) (λ c. search needs) (λ c. search needs)
     (λ c. (search own-later, search needs, search needs)) (λ c. search own-missing))
