@@ -1,17 +1,17 @@
 /* The settlement engine as C calls it: crates/capi, built by `rt staticlib capi` to target/staticlib/libcapi.a. The archive is
  * for x86-64 Linux; the crates are for whatever the kit compiles to.
  * Beside the archive a program links memcpy and memset, which every C library has.
- * The definitions of every answer are crates/packing/specs and crates/capi/specs; each call is proved to give exactly what
- * they say.
+ * The definitions of every answer are crates/packing/specs, crates/capi/specs and crates/tape_numbers/specs; each call is
+ * proved to give exactly what they say.
  *
  * The engine owns no memory and keeps nothing between calls. It reads and writes lent bytes alone, of any content and any
  * length, and each call below says which of them it writes. A call that answers with a refusal's number changes no lent byte.
- * `lufanelis_play_line` answers with no such number: it prints `(refused N)` to `printed`, as it prints every other answer, and
- * `memory` stays as it was.
+ * Two calls answer with no such number: `lufanelis_play_line` prints `(refused N)` to `printed`, as it prints every other
+ * answer, and `memory` stays as it was; `lufanelis_culprit` hands back an empty part.
  *
  * What the caller owes: each pointer is not null, also where its length is 0, and points to as many bytes as the length
- * behind it says, `pairs` to as many numbers, aligned as uint64_t; bytes that a call may write are lent by one of its pointers
- * only; nobody else touches lent bytes until the call returns.
+ * behind it says, `pairs`, `found` and `part` to as many numbers, aligned as uint64_t; bytes that a call may write are lent by
+ * one of its pointers only; nobody else touches lent bytes until the call returns.
  *
  * A *figure* is a signed 32-bit number. Figures compare by their size without sign, and of two equal sizes the positive one is
  * larger: 0, -1, 1, -2, 2 rise, and -2,147,483,648 is the largest of all. Stations are numbered from 1, islands from 0.
@@ -29,10 +29,11 @@ extern "C" {
 #endif
 
 /* Why a call is turned down, in the order in which it is tested; rounds are tested for 18 and 19 behind 11, pairs for 20
- * between 11 and 12. No call answers with 1 to 5: 1 comes only from the program that plays whole sheets, and 2 to 5 only in
- * what `lufanelis_play_line` prints, as `(refused 4)`. */
+ * between 11 and 12, tapes for 1 and then for 21. No call answers with 2 to 5, which come only in what `lufanelis_play_line`
+ * prints, as `(refused 4)`. */
 enum {
     LUFANELIS_ACCEPTED = 0,
+    LUFANELIS_SHEET_TOO_LONG = 1,     /* a run sheet of more than 32,768 bytes, beside two tapes */
     LUFANELIS_TOO_MANY_STEPS = 6,     /* a run of more than 65,536 stations */
     LUFANELIS_BOARD_TOO_SHORT = 7,    /* fewer than 8 bytes */
     LUFANELIS_BAD_STATION_COUNT = 8,  /* n is not 1 to 16 */
@@ -47,7 +48,8 @@ enum {
     LUFANELIS_LINE_TOO_LONG = 17,     /* a shown line of more than 512 bytes; no board has one */
     LUFANELIS_AMID_COLLECT = 18,      /* a station stands in phase 2, 4 or 6 */
     LUFANELIS_BAD_ROUND = 19,         /* a round names more than `most` stations, 0, one above n, or one out of rising order */
-    LUFANELIS_NAMED_TWICE = 20        /* two pairs have the same station */
+    LUFANELIS_NAMED_TWICE = 20,       /* two pairs have the same station */
+    LUFANELIS_NO_STEP_ANSWER = 21     /* a line of a tape says nothing that a step answers */
 };
 
 /* What a step did. */
@@ -75,6 +77,13 @@ enum {
     LUFANELIS_STANDS_SPENT = 4     /* it went through all islands and decided nothing */
 };
 
+/* Which of two tapes. */
+enum {
+    LUFANELIS_NO_TAPE = 0,
+    LUFANELIS_FIRST_TAPE = 1,
+    LUFANELIS_SECOND_TAPE = 2
+};
+
 /* The length of a board for n stations and K islands. */
 #define LUFANELIS_BOARD_LENGTH(n, k) (8 + 32 * (size_t)(n) + 16 * (size_t)(n) * (size_t)(k))
 
@@ -89,6 +98,10 @@ enum {
  * too long a list. No other answer is that number. */
 #define LUFANELIS_NOT_SHOWN UINT32_C(0xFFFFFFFF)
 #define LUFANELIS_NOT_PLAYED UINT64_C(0xFFFFFFFFFFFFFFFF)
+
+/* What `lufanelis_compare` and `lufanelis_culprit` answer that were lent a list of fewer than two numbers. It is no refusal's
+ * number and no tape's. */
+#define LUFANELIS_NO_ROOM 255
 
 /* Lays a fresh board for n stations and k islands; what the bytes held before does not matter. Writes `board`.
  * Answers 0, or the refusal's number (7 to 10). */
@@ -178,6 +191,30 @@ uint64_t lufanelis_word(const uint8_t *line, size_t line_length);
  * with 10, or with 7 where the memory has fewer than 8 bytes. */
 uint64_t lufanelis_play_line(const uint8_t *line, size_t line_length, size_t laid, uint8_t *memory, size_t memory_length,
                              uint8_t *printed, size_t printed_length);
+
+/* Compares two tapes of the run that a sheet plays. A tape has a line for each step that was taken, as `(1 wrote)`, `(1 read 0)`
+ * or `(1 went 0 -40 1)`; it may have any length, and the last line may lack its line feed. What is looked for is the first line
+ * number, counted from 1, at which both tapes have a line and these differ. The culprit is the first tape where its line there
+ * is not the one that the sheet's own steps give, or where these give none; else the second. Lines beyond the shorter tape, and
+ * lines that are wrong in both alike, are no difference.
+ * Writes the first two numbers of `found`; those behind them stay:
+ *   found[0]   the line number; 0 where the tapes do not differ
+ *   found[1]   the culprit's tape, 1 or 2; 0 where they do not differ
+ * Answers 0, or the refusal's number (1, 21), or LUFANELIS_NO_ROOM where `found_length` is below 2. `found_length` counts
+ * numbers. Beside a refusal and LUFANELIS_NO_ROOM it writes nothing. Refusal 21 is asked of every line of both tapes, also behind
+ * the difference. */
+uint8_t lufanelis_compare(const uint8_t *sheet, size_t sheet_length, const uint8_t *first, size_t first_length,
+                          const uint8_t *second, size_t second_length, uint64_t *found, size_t found_length);
+
+/* The culprit's line as a part of its tape, for the same sheet and tapes. Writes the first two numbers of `part`; those behind
+ * them stay:
+ *   part[0]   the place of the line's first byte on that tape, counted from 0
+ *   part[1]   the line's length, without its line feed
+ * Both are 0 where the tapes do not differ, and beside a refusal. Answers the tape, 1 or 2, or 0 where they do not differ and
+ * beside a refusal, which `lufanelis_compare` tells apart; or LUFANELIS_NO_ROOM where `part_length` is below 2, and then writes
+ * nothing. */
+uint8_t lufanelis_culprit(const uint8_t *sheet, size_t sheet_length, const uint8_t *first, size_t first_length,
+                          const uint8_t *second, size_t second_length, uint64_t *part, size_t part_length);
 
 /* A pair for `lufanelis_propose_all`. */
 static inline uint64_t lufanelis_pair(uint8_t station, int32_t figure)

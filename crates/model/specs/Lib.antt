@@ -28,3 +28,4 @@ pub mod StepCount
 pub mod FilledCount
 pub mod LeftRunning
 pub mod FilledRuns
+pub mod Tape

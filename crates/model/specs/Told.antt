@@ -1,6 +1,6 @@
 -- What each case of a declared answer says: 01's kind and values, or its refusal number.
 -- Relies on the declared types and the answers of the definitions; every contract of a call relies on it.
-use Rattle.model.specs.Kit.{cond, none, some}
+use Rattle.model.specs.Kit.{cond, none, some, ℕ}
 use Rattle.model.specs.declared.StepAnswer.{StepAnswer}
 use Rattle.model.specs.declared.StepAnswer.the-variants.{Wrote, Read, Went, Marked, Adopted, Decided, Spent}
 use Rattle.model.specs.declared.StepAnswer.the-variants.{Refused}
@@ -15,6 +15,10 @@ use Rattle.model.specs.declared.Standing.the-variants as standing
 use Rattle.model.specs.declared.StandingAnswer as answers
 use Rattle.model.specs.declared.StandingAnswer.the-variants as answer
 use Rattle.model.specs.declared.ShownLine.{ShownLine}
+use Rattle.model.specs.declared.Tap as taps
+use Rattle.model.specs.declared.Tap.the-variants as tap
+use Rattle.model.specs.declared.Comparison.{Comparison}
+use Rattle.model.specs.declared.Comparison.the-variants as comparison
 use Rattle.model.specs.Figure.{Figure}
 use Rattle.model.specs.Listing.{wrote, read, went, marked, adopted, decided, spent}
 use Rattle.model.specs.Filled.{Report, refusal}
@@ -23,6 +27,7 @@ use Rattle.model.specs.Rounds.{RoundsAnswer, played, notPlayed}
 use Rattle.model.specs.Standing.{Standing, stands-idle, stands-going, stands-decided, stands-spent}
 use Rattle.model.specs.Standing.{StandingAnswer, stands, notTold}
 use Rattle.model.specs.Show.{Shown}
+use Rattle.model.specs.Tape.{Tap, first, second, Compared, notCompared, alike, differs}
 
 -- "It answers with its kind and fields"; a flag is "1 adopt or 2 commit". 02: a read "reports whether it met a filled
 -- one", the ends of a collect "carry the total as a last field"
@@ -65,3 +70,24 @@ standingAnswered (answer.Refused k) = notTold k
 -- "by value as 512 bytes, zeros after the line, and its length"
 unfoldable pub shownTold : ShownLine → Shown
 shownTold s = record { refusal = verdict (s .verdict); line = s .bytes; len = s .len }
+
+-- 02: which of the two tapes, "the first line number .. at which both have a line and these differ", "none"
+unfoldable pub tapTold : taps.Tap → Tap
+tapTold tap.First = first
+tapTold tap.Second = second
+
+unfoldable pub comparisonTold : Comparison → Compared
+comparisonTold comparison.Alike = alike
+comparisonTold (comparison.Differ k t start len) = differs k (tapTold t)
+comparisonTold (comparison.Refused k) = notCompared k
+
+-- and the place of the culprit's line on its tape, with its length; none is an empty part at the start
+unfoldable pub startTold : Comparison → ℕ
+startTold comparison.Alike = 0
+startTold (comparison.Differ k t start len) = start
+startTold (comparison.Refused k) = 0
+
+unfoldable pub lengthTold : Comparison → ℕ
+lengthTold comparison.Alike = 0
+lengthTold (comparison.Differ k t start len) = len
+lengthTold (comparison.Refused k) = 0

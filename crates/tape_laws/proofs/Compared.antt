@@ -4,17 +4,13 @@ use Rattle.model.proofs.Kit.{_≡_, refl, sym, ap, subst, _∙_, true, false, _
 use Rattle.model.proofs.Kit.{zero, suc, _+_, _≤_, _<_, le-leb, leb-true, leb, length, arith}
 use Rattle.model.specs.Forms.{same}
 use Rattle.model.specs.Sheet.{linesOf}
-use Rattle.tape_model.specs.Tape.{lineAt, differFrom, ownLines, taped, Tap, culprit, Compared, notCompared, alike}
-use Rattle.tape_model.specs.Tape.{differs}
-use Rattle.tape_model.specs.Tape.{compare}
-use Rattle.model.proofs.Basics.Tests.{true-T, by-test, clash, impossible, both-true}
+use Rattle.model.specs.Tape.{lineAt, differFrom, ownLines, taped, Tap, culprit, Compared, notCompared, alike, differs}
+use Rattle.model.specs.Tape.{compare}
+use Rattle.model.proofs.Basics.Tests.{true-T, by-test, clash, impossible, never, both-true}
 use Rattle.model.proofs.Sheet.WrittenBack.{same-text, same-self}
 use Rattle.tape_laws.specs.TwoTapes.{NeverDiffer, FirstDifference, DiffersFirst, AlikeIsNever, AlikeItself}
 
 -- ---- lists of lines
-
-pub no-line : {X : Type 0} {l : List ℕ} → none ≡ some l → X
-no-line e = impossible (cc)
 
 pub one-line : {l m : List ℕ} → some l ≡ some m → l ≡ m
 one-line e = cc
@@ -35,14 +31,14 @@ differ-here n l m ls ms e = rw e
 
 agree-next : (l m : List ℕ) (ls ms : List (List ℕ)) → l ≡ m → Agree ls ms → Agree (l ∷ ls) (m ∷ ms)
 unfolding lineAt
-agree-next l m ls ms e h zero x y p q = no-line p
+agree-next l m ls ms e h zero x y p q = never _ p
 agree-next l m ls ms e h (suc zero) x y p q = sym (one-line p) ∙ e ∙ one-line q
 agree-next l m ls ms e h (suc (suc k)) x y p q = h (suc k) x y p q
 
 none-agree : (n : ℕ) (ls ms : List (List ℕ)) → differFrom n ls ms ≡ none → Agree ls ms
 unfolding lineAt
-none-agree n [] ms e = λ k l m p q. no-line p
-none-agree n (x ∷ ls) [] e = λ k l m p q. no-line q
+none-agree n [] ms e = λ k l m p q. never _ p
+none-agree n (x ∷ ls) [] e = λ k l m p q. never _ q
 none-agree n (x ∷ ls) (y ∷ ms) e =
     by-test (same x y)
     (λ t. agree-next x y ls ms (same-text x y (true-T _ t))
@@ -56,7 +52,7 @@ no-zeroth (l ∷ ls) = refl
 
 agree-later : (x y : List ℕ) (ls ms : List (List ℕ)) → Agree (x ∷ ls) (y ∷ ms) → Agree ls ms
 unfolding lineAt
-agree-later x y ls ms h zero l m p q = no-line (sym (no-zeroth ls) ∙ p)
+agree-later x y ls ms h zero l m p q = never _ (sym (no-zeroth ls) ∙ p)
 agree-later x y ls ms h (suc k) l m p q = h (suc (suc k)) l m p q
 
 agree-none : (n : ℕ) (ls ms : List (List ℕ)) → Agree ls ms → differFrom n ls ms ≡ none
@@ -79,7 +75,7 @@ differ-at-once x y ls ms t = record {
 }
   where
     none-before : (j : ℕ) → j < 1 → (l m : List ℕ) → lineAt j (x ∷ ls) ≡ some l → lineAt j (y ∷ ms) ≡ some m → l ≡ m
-    none-before zero h l m p q = no-line p
+    none-before zero h l m p q = never _ p
     none-before (suc j) h l m p q = absurd (omega arith)
 
 differ-later : (x y : List ℕ) (ls ms : List (List ℕ)) → x ≡ y → (j : ℕ) → FirstDifference ls ms (suc j)
@@ -96,7 +92,7 @@ differ-later x y ls ms e j d = record {
   where
     earlier : (k : ℕ) → k < suc (suc j) → (l m : List ℕ) → lineAt k (x ∷ ls) ≡ some l → lineAt k (y ∷ ms) ≡ some m
         → l ≡ m
-    earlier zero h l m p q = no-line p
+    earlier zero h l m p q = never _ p
     earlier (suc zero) h l m p q = sym (one-line p) ∙ e ∙ one-line q
     earlier (suc (suc k)) h l m p q = d .before (suc k) (omega arith) l m p q
 
@@ -191,9 +187,9 @@ alike-is-never s a b = record {
   says =
       compare-case s a b (λ c. c ≡ alike → Agree (linesOf a) (linesOf b))
       (λ n e q. impossible (let z : notCompared n ≡ alike = sym e ∙ q in cc)) (λ h p q. found (differFrom 0 _ _) refl);
-  said = λ accepted never.
+  said = λ accepted agree.
       compare-case s a b (λ c. c ≡ alike) (λ n e. absurd (accepted n e))
-      (λ h p q. ap (verdict s a) (agree-none 0 (linesOf a) (linesOf b) never));
+      (λ h p q. ap (verdict s a) (agree-none 0 (linesOf a) (linesOf b) agree));
 }
   where
     found : (o : Option ℕ) → differFrom 0 (linesOf a) (linesOf b) ≡ o → verdict s a o ≡ alike
@@ -205,7 +201,7 @@ alike-is-never s a b = record {
 pub alike-where : (s a b : List ℕ) → length s ≤ 32768 → taped (linesOf a) ≡ true → taped (linesOf b) ≡ true
     → NeverDiffer a b → compare s a b ≡ alike
 unfolding NeverDiffer verdict
-alike-where s a b h p q never = compared s a b h p q none (agree-none 0 (linesOf a) (linesOf b) never)
+alike-where s a b h p q agree = compared s a b h p q none (agree-none 0 (linesOf a) (linesOf b) agree)
 
 pub alike-itself : AlikeItself
 unfolding AlikeItself NeverDiffer

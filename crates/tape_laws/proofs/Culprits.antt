@@ -3,21 +3,21 @@
 use Rattle.model.proofs.Kit.{_≡_, refl, sym, ap, _∙_, true, false, List, [], _∷_, some, ℕ, zero, suc}
 use Rattle.model.specs.Forms.{same}
 use Rattle.model.specs.Sheet.{linesOf}
-use Rattle.tape_model.specs.Tape.{lineAt, ownLines, isEntry, taped, culprit}
-use Rattle.model.proofs.Basics.Tests.{true-T, by-test, both-true}
+use Rattle.model.specs.Tape.{lineAt, ownLines, isEntry, taped, culprit}
+use Rattle.model.proofs.Basics.Tests.{true-T, by-test, never, both-true}
 use Rattle.model.proofs.Sheet.WrittenBack.{same-text, same-self}
 use Rattle.tape_laws.specs.TapeLines.{OwnTaped, OwnWritten}
 use Rattle.tape_laws.specs.TwoTapes.{NeverDiffer, Own, WrittenOwn, NoCulprit, OwnAlike, FirstIsOwn, SecondIsOwn}
 use Rattle.tape_laws.proofs.OwnTape.{own-taped}
 use Rattle.tape_laws.proofs.Unbroken.{own-written}
-use Rattle.tape_laws.proofs.Compared.{no-line, one-line, told, alike-where}
+use Rattle.tape_laws.proofs.Compared.{one-line, told, alike-where}
 
 -- ---- lines that are step answers
 
 pub line-taped : (ls : List (List ℕ)) → taped ls ≡ true → (k : ℕ) (l : List ℕ) → lineAt k ls ≡ some l → isEntry l ≡ true
 unfolding taped lineAt
-line-taped [] t k l e = no-line e
-line-taped (x ∷ ls) t zero l e = no-line e
+line-taped [] t k l e = never _ e
+line-taped (x ∷ ls) t zero l e = never _ e
 line-taped (x ∷ ls) t (suc zero) l e = ap isEntry (sym (one-line e)) ∙ both-true (isEntry x) (taped ls) t .0
 line-taped (x ∷ ls) t (suc (suc k)) l e = line-taped ls (both-true (isEntry x) (taped ls) t .1) (suc k) l e
 

@@ -6,7 +6,7 @@ use Rattle.model.specs.Show.{text, textFrom, decimal, signed}
 use Rattle.model.specs.Figure.{Figure}
 use Rattle.model.specs.Listing.{Answer, wrote, read, went, marked, adopted, decided, spent, refused}
 use Rattle.model.specs.Forms.{same, spaced, closing, rowIn, upToStop}
-use Rattle.tape_model.specs.Tape.{endText, kindText, entryText, endIn, readIn, kindRows, kindIn, byStation, entryIn}
+use Rattle.model.specs.Tape.{endText, kindText, entryText, endIn, readIn, kindRows, kindIn, byStation, entryIn}
 use Rattle.model.proofs.Sheet.Numbers.{then-found, number-decimal, figure-signed}
 use Rattle.model.proofs.Sheet.Lists.{station-read, bracket-stops, space-stops}
 use Rattle.tape_laws.specs.TapeLines.{EndInRange, AnswerInRange, InRange, ReadsWritten}

@@ -8,8 +8,7 @@ use Rattle.model.specs.Figure.{Figure}
 use Rattle.model.specs.Filled.{Report}
 use Rattle.model.specs.Listing.{Answer, wrote, read, went, marked, adopted, decided, spent}
 use Rattle.model.specs.Forms.{spaced, numberIn, figureIn, closing, WordRow, rowIn, upToStop}
-use Rattle.tape_model.specs.Tape.{Entry, endText, kindText, entryText, endIn, readIn, kindRows, kindIn, byStation}
-use Rattle.tape_model.specs.Tape.{entryIn}
+use Rattle.model.specs.Tape.{Entry, endText, kindText, entryText, endIn, readIn, kindRows, kindIn, byStation, entryIn}
 use Rattle.model.proofs.Sheet.Readers.{Always, always-then, always-if}
 use Rattle.model.proofs.Sheet.NumbersBack.{Stood, in-front, spaced-stood, number-stood, figure-stood}
 use Rattle.model.proofs.Sheet.Lists.{station-stood}

@@ -16,8 +16,7 @@ use Rattle.model.specs.Forms.{readLine}
 use Rattle.model.specs.Sheet.{Played, playLine, linesOf}
 use Rattle.model.specs.AnyList.{Call, laying, proposing, stepping, called}
 use Rattle.model.specs.SheetList.{callsOf, boardOf}
-use Rattle.tape_model.specs.Tape.{Entry, entryText, isEntry, entryOf, tapeOf, linesTape, begun, sheetTape, ownLines}
-use Rattle.tape_model.specs.Tape.{taped}
+use Rattle.model.specs.Tape.{Entry, entryText, isEntry, entryOf, tapeOf, linesTape, begun, sheetTape, ownLines, taped}
 use Rattle.model.proofs.Basics.Tests.{clash, cond-case}
 use Rattle.model.proofs.Board.Codec.{Fits, FitsStage, FitsStation}
 use Rattle.model.proofs.Board.Good.{GoodStage, GoodStation}

@@ -5,11 +5,11 @@ use Rattle.model.proofs.Kit.{_≡_, refl, sym, ap, _∙_, true, List, [], _∷_
 use Rattle.model.proofs.Kit.{length, take, drop, drop-drop, arith}
 use Rattle.model.specs.Bytes.{Each, endedBy}
 use Rattle.model.specs.Sheet.{linesOf}
-use Rattle.tape_model.specs.Tape.{lineAt, lineStart, isEntry, entryIn, taped, Tap, first, second, partOf, culpritPart}
+use Rattle.model.specs.Tape.{lineAt, lineStart, isEntry, entryIn, taped, Tap, first, second, partOf, culpritPart}
 use Rattle.model.proofs.Basics.Ended.{front, parts-at}
-use Rattle.model.proofs.Basics.Tests.{clash, cond-case}
+use Rattle.model.proofs.Basics.Tests.{clash, never, cond-case}
 use Rattle.tape_laws.specs.TwoTapes.{tapeBy, PartStands, CulpritStands}
-use Rattle.tape_laws.proofs.Compared.{no-line, one-line, no-zeroth, told}
+use Rattle.tape_laws.proofs.Compared.{one-line, no-zeroth, told}
 use Rattle.tape_laws.proofs.Culprits.{line-taped}
 
 -- ---- the part in front
@@ -63,8 +63,8 @@ module _ (s : List ℕ) (split : linesOf s ≡ front 10 s ∷ linesOf (behind s)
 
 line-stands : (k : ℕ) (s l : List ℕ) → lineAt k (linesOf s) ≡ some l → Stands k s l
 unfolding lineAt endedBy
-line-stands zero s l e = no-line (sym (no-zeroth (linesOf s)) ∙ e)
-line-stands (suc k) [] l e = no-line e
+line-stands zero s l e = never _ (sym (no-zeroth (linesOf s)) ∙ e)
+line-stands (suc k) [] l e = never _ e
 line-stands (suc zero) (b ∷ s) l e = first-stands (b ∷ s) (lines-split b s) l e
 line-stands (suc (suc k)) (b ∷ s) l e =
     later-stands (b ∷ s) (lines-split b s) k l

@@ -7,7 +7,7 @@ use Rattle.model.specs.Show.{text, textFrom, decimalIn, decimal, signed}
 use Rattle.model.specs.Figure.{Figure}
 use Rattle.model.specs.Listing.{Answer, wrote, read, went, marked, adopted, decided, spent, refused}
 use Rattle.model.specs.Sheet.{linesOf}
-use Rattle.tape_model.specs.Tape.{Entry, endText, kindText, entryText, sheetTape, ownLines, tapeText}
+use Rattle.model.specs.Tape.{Entry, endText, kindText, entryText, sheetTape, ownLines, tapeText}
 use Rattle.model.proofs.Basics.Tests.{true-T, T-false, cond-case, both-true}
 use Rattle.tape_laws.specs.TapeLines.{OwnWritten}
 

@@ -7,7 +7,7 @@ use mir.Val.{SFits}
 use Rattle.model.specs.Figure.{Figure}
 use Rattle.model.specs.Listing.{Answer, wrote, read, went, marked, adopted, decided, spent, refused}
 use Rattle.model.specs.Sheet.{linesOf}
-use Rattle.tape_model.specs.Tape.{Entry, entryText, entryIn, ownLines, tapeText, taped}
+use Rattle.model.specs.Tape.{Entry, entryText, entryIn, ownLines, tapeText, taped}
 
 -- the fields of an answer that ends a collect: a number in its range, a figure, and "totals 0 to 99"
 unfoldable pub EndInRange : (low high : ℕ) → (c : ℕ) → Figure → (total : ℕ) → Type 0

@@ -5,8 +5,8 @@ use mathlib.Core.Path.{_≡_}
 use Prim.Native.Nat.{_<_}
 use Rattle.model.specs.Bytes.{Each}
 use Rattle.model.specs.Sheet.{linesOf}
-use Rattle.tape_model.specs.Tape.{lineAt, ownLines, taped, Tap, first, second, notCompared, alike, differs, compare}
-use Rattle.tape_model.specs.Tape.{tapeText, TapePart, culpritPart}
+use Rattle.model.specs.Tape.{lineAt, ownLines, taped, Tap, first, second, notCompared, alike, differs, compare}
+use Rattle.model.specs.Tape.{tapeText, TapePart, culpritPart}
 
 -- ---- "find the first line number, counted from 1, at which both have a line and these differ"
 

@@ -2,11 +2,11 @@
 -- Relies on lists and on what the declared answers mean; the proofs of the crate rely on it.
 use Rattle.model.proofs.Kit.{_≡_, refl, sym, ap, _∙_, List, [], _∷_, ℕ, _≤_, _<_, le-leb, lt-leb, length, set, drop}
 use Rattle.model.proofs.Kit.{arith}
-use Rattle.tape_model.specs.declared.Tap as taps
-use Rattle.tape_model.specs.declared.Tap.the-variants as tap
-use Rattle.tape_model.specs.declared.Comparison.{Comparison}
-use Rattle.tape_model.specs.declared.Comparison.the-variants.{Alike, Differ, Refused}
-use Rattle.tape_model.specs.TapeTold.{tapTold, comparisonTold, startTold, lengthTold}
+use Rattle.model.specs.declared.Tap as taps
+use Rattle.model.specs.declared.Tap.the-variants as tap
+use Rattle.model.specs.declared.Comparison.{Comparison}
+use Rattle.model.specs.declared.Comparison.the-variants.{Alike, Differ, Refused}
+use Rattle.model.specs.Told.{tapTold, comparisonTold, startTold, lengthTold}
 use Rattle.tape_numbers.specs.Numbers.{tapNumber, refusalNumber, culpritNumber, twoIn, foundIn, twoFit}
 
 module _ (t : taps.Tap) where

@@ -5,7 +5,7 @@ use mathlib.Core.List.{List, _∷_}
 use Prim.Native.Nat.{ℕ}
 use lib.Dec.{leb}
 use lib.ListN.{length, drop}
-use Rattle.tape_model.specs.Tape.{Tap, first, second, Compared, notCompared, alike, differs}
+use Rattle.model.specs.Tape.{Tap, first, second, Compared, notCompared, alike, differs}
 
 -- "the first tape's .. else the second's"; 0 stands for none
 unfoldable pub tapNumber : Tap → ℕ

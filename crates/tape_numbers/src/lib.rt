@@ -1,10 +1,10 @@
 // The answer of a comparison as numbers: one by value, and two put into a lent list.
 // Relies on the declared types; no crate relies on it.
 ghost use mathlib.Core.Path.{_≡_};
-ghost use Rattle.tape_model.specs.TapeTold.{tapTold, comparisonTold, startTold, lengthTold};
+ghost use Rattle.model.specs.Told.{tapTold, comparisonTold, startTold, lengthTold};
 ghost use Rattle.tape_numbers.specs.Numbers.{tapNumber, refusalNumber, culpritNumber, twoIn, foundIn, twoFit};
-use tape_model::Comparison;
-use tape_model::Tap;
+use model::Comparison;
+use model::Tap;
 
 // For a list without room: neither a refusal nor a tape has this number.
 const NO_ROOM: u8 = 255;

@@ -10,7 +10,7 @@ use Rattle.model.specs.Figure.{Figure}
 use Rattle.model.specs.Filled.{Report}
 use Rattle.model.specs.Forms.{WordRow}
 use Rattle.model.specs.Listing.{Answer}
-use Rattle.tape_model.specs.Tape.{endIn}
+use Rattle.model.specs.Tape.{endIn}
 
 -- something was read
 unfoldable pub given : {A : Type 0} → Option A → Bool

@@ -3,7 +3,7 @@
 ghost use mathlib.Core.Path.{_≡_};
 ghost use Prim.Native.Nat.{_≤_};
 ghost use lib.ListN.{length, drop};
-ghost use Rattle.tape_model.specs.Tape.{readIn, kindRows, isEntry};
+ghost use Rattle.model.specs.Tape.{readIn, kindRows, isEntry};
 ghost use Rattle.model.specs.Forms.{rowIn};
 ghost use Rattle.tape_reader.specs.Reading.{given, byRow, EndsIs};
 use check::same;

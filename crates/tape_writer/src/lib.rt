@@ -11,7 +11,7 @@ use shown::status::write_standing;
 ghost use mathlib.Core.Bool.{cond};
 ghost use mathlib.Core.List.{[], _∷_, _++_};
 ghost use Rattle.model.specs.Listing.{read};
-ghost use Rattle.tape_model.specs.Tape.{kindText, entryText};
+ghost use Rattle.model.specs.Tape.{kindText, entryText};
 ghost use Rattle.model.specs.Told.{told};
 ghost use Rattle.shown.specs.Puts.{Holds, Puts, Room, lineOf};
 ghost use Rattle.tape_writer.specs.Writing.{endBytes};

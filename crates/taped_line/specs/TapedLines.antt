@@ -11,7 +11,7 @@ use Rattle.model.specs.Forms.{readLine}
 use Rattle.model.specs.Sheet.{playLine}
 use Rattle.model.specs.AnyList.{Call, after}
 use Rattle.model.specs.SheetList.{callsOf}
-use Rattle.tape_model.specs.Tape.{Entry, tapeOf}
+use Rattle.model.specs.Tape.{Entry, tapeOf}
 use Rattle.taping.specs.declared.Taped.{Taped}
 use Rattle.taping.specs.Taping.{Taping, lineTaken, slot, taping}
 use Rattle.taped_line.specs.declared.TapedLine.{TapedLine}

@@ -9,7 +9,7 @@ use lib.Dec.{ltb}
 use lib.ListN.{length, take, drop, replicate}
 use Rattle.model.specs.Layout.{boardLength}
 use Rattle.model.specs.Sheet.{playLine, linesOf}
-use Rattle.tape_model.specs.Tape.{Entry, entryText, sheetTape, tapeText}
+use Rattle.model.specs.Tape.{Entry, entryText, sheetTape, tapeText}
 use Rattle.taped_line.specs.TapedLines.{lineTape}
 use Rattle.taped_sheet.specs.declared.SheetPart.{SheetPart}
 

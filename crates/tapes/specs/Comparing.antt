@@ -5,11 +5,11 @@ use mathlib.Core.List.{List}
 use Prim.Native.Nat.{ℕ, _+_, _≤_}
 use lib.ListN.{length, take, drop}
 use denote.Ref.{RefT}
-use Rattle.tape_model.specs.declared.Tap as taps
-use Rattle.tape_model.specs.declared.Comparison.{Comparison}
-use Rattle.tape_model.specs.declared.Comparison.the-variants.{Alike, Differ, Refused}
-use Rattle.tape_model.specs.Tape.{TapePart, compare, culpritPart}
-use Rattle.tape_model.specs.TapeTold.{tapTold, comparisonTold, startTold, lengthTold}
+use Rattle.model.specs.declared.Tap as taps
+use Rattle.model.specs.declared.Comparison.{Comparison}
+use Rattle.model.specs.declared.Comparison.the-variants.{Alike, Differ, Refused}
+use Rattle.model.specs.Tape.{TapePart, compare, culpritPart}
+use Rattle.model.specs.Told.{tapTold, comparisonTold, startTold, lengthTold}
 use Rattle.tape_laws.specs.TwoTapes.{tapeBy}
 
 -- a part of one of the tapes lies inside it

@@ -6,7 +6,7 @@ use mathlib.Core.Option.{none, some}
 use Prim.Native.Nat.{ℕ, _-_, _≤_}
 use lib.ListN.{length, take, drop}
 use Rattle.model.specs.Sheet.{linesOf}
-use Rattle.tape_model.specs.Tape.{lineAt, lineStart, differFrom}
+use Rattle.model.specs.Tape.{lineAt, lineStart, differFrom}
 use Rattle.tapes.specs.declared.difference.Gap.{Gap}
 use Rattle.tapes.specs.declared.difference.Gap.the-variants.{Nowhere, At}
 

@@ -2,7 +2,7 @@
 // Relies on the reader of a tape line; the comparison of tapes relies on it.
 ghost use mathlib.Core.Path.{_≡_};
 ghost use Rattle.model.specs.Sheet.{linesOf};
-ghost use Rattle.tape_model.specs.Tape.{taped};
+ghost use Rattle.model.specs.Tape.{taped};
 use lines::line_end;
 use tape_reader::is_entry;
 

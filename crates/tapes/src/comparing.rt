@@ -2,14 +2,14 @@
 // culprit's; by value, or as the part of the tape that the line is.
 // Relies on the difference of two tapes, on the test of their lines and on the algorithm's own line; no crate relies on it.
 ghost use Rattle.tapes.specs.Comparing.{Compares, PartIs, PartTaken, Fits};
-ghost use Rattle.tape_model.specs.Tape as tape;
-ghost use Rattle.tape_model.specs.Tape.{culpritPart};
+ghost use Rattle.model.specs.Tape as tape;
+ghost use Rattle.model.specs.Tape.{culpritPart};
 use crate::checking::all_entries;
 use crate::culprit::culprit_of;
 use crate::difference::Gap;
 use crate::difference::first_difference;
-use tape_model::Comparison;
-use tape_model::Tap;
+use model::Comparison;
+use model::Tap;
 
 // Refusals 1 and 21, and then the first difference, if there is one.
 pub fn compare(sheet: &[u8], first: &[u8], second: &[u8]) -> Comparison

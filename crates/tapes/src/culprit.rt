@@ -4,12 +4,12 @@
 ghost use mathlib.Core.Path.{_≡_};
 ghost use mathlib.Core.Option.{some};
 ghost use Prim.Native.Nat.{_≤_};
-ghost use Rattle.tape_model.specs.Tape as tape;
-ghost use Rattle.tape_model.specs.Tape.{lineAt, ownLines};
-ghost use Rattle.tape_model.specs.TapeTold.{tapTold};
+ghost use Rattle.model.specs.Tape as tape;
+ghost use Rattle.model.specs.Tape.{lineAt, ownLines};
+ghost use Rattle.model.specs.Told.{tapTold};
 use check::same;
 use lines::line_end;
-use tape_model::Tap;
+use model::Tap;
 use taped_line::tape_line;
 use taping::Taped;
 
@@ -17,10 +17,10 @@ use taping::Taped;
 fn blamed(line: &[u8], own: &[u8]) -> Tap
     ensures { λ r. ⌜ tapTold r ≡ tape.culprit (some (now (own .entry))) (some (now (line .entry))) ⌝ }
 {
-    if same(line, own) {
-        return Tap::Second;
+    if !same(line, own) {
+        return Tap::First;
     }
-    Tap::First
+    Tap::Second
 }
 
 // `line` is the first tape's line with the number. The algorithm's own line is put into `own` with its LF, for which the largest

@@ -27,6 +27,7 @@ pub fn first_difference(first: &[u8], second: &[u8]) -> Gap
         }
         let first_end = line_end(first, at);
         let second_end = line_end(second, at);
+        let next = first_end + 1;
         number += 1;
         if !same(&first[at..first_end], &second[at..second_end]) {
             return Gap::At {
@@ -36,7 +37,7 @@ pub fn first_difference(first: &[u8], second: &[u8]) -> Gap
                 second_end,
             };
         }
-        at = first_end + 1;
+        at = next;
     }
     Gap::Nowhere
 }

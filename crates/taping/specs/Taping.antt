@@ -14,7 +14,7 @@ use Rattle.model.specs.Figure.{Figure}
 use Rattle.model.specs.Filled.{Report}
 use Rattle.model.specs.Listing.{accepted}
 use Rattle.model.specs.Calls.{After, boardRefusal, stepOn}
-use Rattle.tape_model.specs.Tape.{Entry, entryText}
+use Rattle.model.specs.Tape.{Entry, entryText}
 use Rattle.taping.specs.declared.Taped.{Taped}
 
 -- The board and the buffer with what is still to do: lines to pass over, lines to put in, and the bytes put in so far.

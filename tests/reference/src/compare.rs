@@ -5,7 +5,6 @@ use crate::engine::{Engine, Reference};
 use crate::left_running::Ends;
 use crate::lent::Lent;
 use crate::random::Random;
-#[cfg(feature = "tapes")]
 use crate::verdicts::Verdicts;
 
 #[derive(Clone, Copy, Debug)]
@@ -43,7 +42,6 @@ pub struct Counts {
     /// How stations ended that were left alone or propose one figure.
     pub ends: Ends,
     /// What was said of two tapes.
-    #[cfg(feature = "tapes")]
     pub tapes: Verdicts,
     /// How often each refusal was the answer of a call on a board; at 0 the accepted calls.
     pub refusals: [u64; 21],

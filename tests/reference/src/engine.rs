@@ -8,13 +8,11 @@ use crate::model::{Answer, Standing};
 use crate::pairs;
 use crate::refusal::Refusal;
 use crate::sheet;
-#[cfg(feature = "tapes")]
 use crate::tapes::{self, Culprit};
 
 pub const SHOWN: usize = calls::LONGEST_SHOW;
 
 /// For a list of fewer than two numbers.
-#[cfg(feature = "tapes")]
 pub const NO_ROOM: u8 = 255;
 
 /// Every buffer is lent so that it could be written, also where a call may only read it: whoever writes there is found.
@@ -79,14 +77,12 @@ pub trait Engine {
 
     /// Two tapes of a sheet. 0 or the refusal's number; the list begins with the number of the line and the culprit's tape, 0
     /// and 0 for none, and stays as it was beside a refusal. 255 where the list has fewer than two numbers.
-    #[cfg(feature = "tapes")]
     fn compare(&self, sheet: &mut [u8], first: &mut [u8], second: &mut [u8], found: &mut [u64]) -> u8 {
         self.rest().compare(sheet, first, second, found)
     }
 
     /// The culprit's tape, 0 for none and beside a refusal; the list begins with the place where its line starts in that tape
     /// and the line's length, 0 and 0 for none and beside a refusal. 255 where the list has fewer than two numbers.
-    #[cfg(feature = "tapes")]
     fn culprit(&self, sheet: &mut [u8], first: &mut [u8], second: &mut [u8], part: &mut [u64]) -> u8 {
         self.rest().culprit(sheet, first, second, part)
     }
@@ -125,7 +121,6 @@ pub fn packed_standing((standing, steps): (Standing, u16)) -> u64 {
 }
 
 /// The first two numbers of a list that has them; those behind them stay.
-#[cfg(feature = "tapes")]
 fn put(answer: u8, two: Option<[usize; 2]>, list: &mut [u64]) -> u8 {
     let Some(front) = list.first_chunk_mut::<2>() else { return NO_ROOM };
     if let Some(two) = two {
@@ -135,7 +130,6 @@ fn put(answer: u8, two: Option<[usize; 2]>, list: &mut [u64]) -> u8 {
 }
 
 /// What the call for the number answers, and what it puts into the list.
-#[cfg(feature = "tapes")]
 pub fn put_found(found: Result<Option<Culprit>, Refusal>, list: &mut [u64]) -> u8 {
     match found {
         Ok(Some(culprit)) => put(0, Some([culprit.number, culprit.tape as usize]), list),
@@ -145,7 +139,6 @@ pub fn put_found(found: Result<Option<Culprit>, Refusal>, list: &mut [u64]) -> u
 }
 
 /// What the call for the part answers, and what it puts into the list.
-#[cfg(feature = "tapes")]
 pub fn put_part(found: Result<Option<Culprit>, Refusal>, list: &mut [u64]) -> u8 {
     match found {
         Ok(Some(culprit)) => put(culprit.tape, Some([culprit.start, culprit.part.len()]), list),
@@ -237,12 +230,10 @@ impl Engine for Reference {
         text.len() as u64 | (after as u64) << 16
     }
 
-    #[cfg(feature = "tapes")]
     fn compare(&self, sheet: &mut [u8], first: &mut [u8], second: &mut [u8], found: &mut [u64]) -> u8 {
         put_found(tapes::culprit(sheet, first, second), found)
     }
 
-    #[cfg(feature = "tapes")]
     fn culprit(&self, sheet: &mut [u8], first: &mut [u8], second: &mut [u8], part: &mut [u64]) -> u8 {
         put_part(tapes::culprit(sheet, first, second), part)
     }

@@ -3,9 +3,9 @@
 //! `model` has the two algorithms of the listing on values: a register is an `Option`, a collect is the list of what
 //! was read. `figure` has the order of figures. `bytes` turns a board of bytes into fields and fields into values, and
 //! back. `sound` lists the clauses of soundness, `halts` has the rounds in which stations are suspended, `pairs` the figures
-//! that are put in together. `calls` are the library's calls, `sheet` the program's, and `tapes`, with the feature of that name,
-//! has a sheet's own tape and who is blamed where two tapes differ. `on_values` is what wrong engines are made of, which a
-//! comparison must find. The rest makes boards, lists, sheets and tapes to compare.
+//! that are put in together. `calls` are the library's calls, `sheet` the program's, and `tapes` has a sheet's own tape and who
+//! is blamed where two tapes differ. `on_values` is what wrong engines are made of, which a comparison must find. The rest
+//! makes boards, lists, sheets and tapes to compare.
 
 pub mod batches;
 pub mod boards;
@@ -27,7 +27,6 @@ pub mod line_batches;
 pub mod linked;
 pub mod lists;
 pub mod made_lists;
-#[cfg(feature = "tapes")]
 pub mod made_tapes;
 pub mod model;
 pub mod on_values;
@@ -48,11 +47,7 @@ pub mod sheet;
 pub mod sheets;
 pub mod shorten;
 pub mod sound;
-#[cfg(feature = "tapes")]
 pub mod tape_batches;
-#[cfg(feature = "tapes")]
 pub mod tape_edges;
-#[cfg(feature = "tapes")]
 pub mod tapes;
-#[cfg(feature = "tapes")]
 pub mod verdicts;

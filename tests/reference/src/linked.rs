@@ -22,7 +22,6 @@ extern "C" {
         printed: *mut u8,
         room: usize,
     ) -> u64;
-    #[cfg(feature = "tapes")]
     fn lufanelis_compare(
         sheet: *const u8,
         sheet_length: usize,
@@ -33,7 +32,6 @@ extern "C" {
         found: *mut u64,
         found_length: usize,
     ) -> u8;
-    #[cfg(feature = "tapes")]
     fn lufanelis_culprit(
         sheet: *const u8,
         sheet_length: usize,
@@ -100,7 +98,6 @@ impl Engine for Linked {
         unsafe { lufanelis_play_line(text, length, laid, memory.as_mut_ptr(), memory.len(), out, room) }
     }
 
-    #[cfg(feature = "tapes")]
     fn compare(&self, sheet: &mut [u8], first: &mut [u8], second: &mut [u8], found: &mut [u64]) -> u8 {
         let (text, length) = (sheet.as_mut_ptr(), sheet.len());
         let (one, two) = (first.as_mut_ptr(), second.as_mut_ptr());
@@ -108,7 +105,6 @@ impl Engine for Linked {
         unsafe { lufanelis_compare(text, length, one, first.len(), two, second.len(), list, room) }
     }
 
-    #[cfg(feature = "tapes")]
     fn culprit(&self, sheet: &mut [u8], first: &mut [u8], second: &mut [u8], part: &mut [u64]) -> u8 {
         let (text, length) = (sheet.as_mut_ptr(), sheet.len());
         let (one, two) = (first.as_mut_ptr(), second.as_mut_ptr());

@@ -23,7 +23,6 @@ pub enum Refusal {
     AmidCollect = 18,
     BadRound = 19,
     NamedTwice = 20,
-    #[cfg(feature = "tapes")]
     NoStepAnswer = 21,
 }
 

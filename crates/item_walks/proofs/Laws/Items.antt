@@ -7,7 +7,8 @@ use Rattle.model.specs.Forms.{Item, station, expandItem, Read, found, andThen, 
 use Rattle.model.specs.Forms.{itemsIn}
 use Rattle.lexer.specs.declared.known.KnownNumber.{KnownNumber}
 use Rattle.lexer.specs.Known.{NumberStands, KnownIs}
-use Rattle.lexer.proofs.Laws.Given.{never, found-one, through}
+use Rattle.model.proofs.Basics.Tests.{never}
+use Rattle.lexer.proofs.Laws.Given.{found-one, through}
 use Rattle.lexer.proofs.Laws.Known.{stands-there, known-found, known-range}
 use Rattle.sheet.proofs.Laws.Items.{as-number}
 use Rattle.item_walks.specs.ItemWalks.{RanPart, PartDone, ItemReads, ItemsRead, ItemDone}

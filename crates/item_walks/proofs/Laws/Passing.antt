@@ -3,7 +3,8 @@
 use Rattle.model.proofs.Kit.{_≡_, refl, sym, ap, subst, _∙_, Bool, true, false, cond, List, [], _++_, append-assoc}
 use Rattle.model.proofs.Kit.{append-nil, none, ℕ, zero, suc, _+_, _-_, _≤_, _<_, ne-eqb, eqb, length, drop, getD, arith}
 use Rattle.model.specs.Forms.{Items, done, next, expandItem, expand, found, andThen, spaced, itemIn, itemsIn}
-use Rattle.lexer.proofs.Laws.Given.{never, found-one, Through, through}
+use Rattle.model.proofs.Basics.Tests.{never}
+use Rattle.lexer.proofs.Laws.Given.{found-one, Through, through}
 use Rattle.lexer.proofs.Laws.Places.{first-byte, behind-first}
 use Rattle.item_walks.specs.ItemWalks.{RanPart, PartDone, ItemReads, ItemsRead, ItemDone, ItemsDone}
 use Rattle.item_walks.proofs.Laws.Items.{items-inside, same-items}

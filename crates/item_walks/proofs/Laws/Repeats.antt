@@ -7,10 +7,10 @@ use Rattle.model.proofs.Kit.{some, ℕ, zero, suc, _+_, _-_, _≤_, _<_, length
 use native.Mathlib.Nat.{suc-add}
 use Rattle.model.specs.Forms.{Item, times, Items, repeated, expandItem, expand, Read, found, andThen, numberIn, timesIn}
 use Rattle.model.specs.Forms.{itemIn, itemsIn}
-use Rattle.model.proofs.Basics.Tests.{cond-case}
+use Rattle.model.proofs.Basics.Tests.{cond-case, never}
 use Rattle.lexer.specs.declared.known.KnownNumber.{KnownNumber}
 use Rattle.lexer.specs.Known.{NumberStands, KnownIs}
-use Rattle.lexer.proofs.Laws.Given.{never, found-one, Through, through}
+use Rattle.lexer.proofs.Laws.Given.{found-one, Through, through}
 use Rattle.lexer.proofs.Laws.Known.{stands-there, known-found, known-range}
 use Rattle.sheet.proofs.Laws.Items.{as-times}
 use Rattle.sheet.proofs.Laws.Times.{times-number}

@@ -4,13 +4,13 @@
 use Rattle.model.proofs.Kit.{_≡_, refl, sym, ap, _∙_, Bool, true, false, cond, List, [], _∷_, none, some, ℕ, _+_, _-_}
 use Rattle.model.proofs.Kit.{_≤_, _<_, eqb-true, eq-eqb, eqb, length, take, drop, drop-drop, arith}
 use Rattle.model.specs.Forms.{behind}
-use Rattle.model.proofs.Basics.Tests.{clash}
+use Rattle.model.proofs.Basics.Tests.{clash, never}
 use Rattle.model.specs.Forms.{orFour}
 use Rattle.lexer.specs.declared.word.FoundWord.{FoundWord}
 use Rattle.lexer.specs.declared.word.FoundWord.the-variants.{At, Refused}
 use Rattle.lexer.specs.Words.{wordAt, WordIs}
 use Rattle.lexer.proofs.Laws.Answers.{back, was-read}
-use Rattle.lexer.proofs.Laws.Given.{never, passed}
+use Rattle.lexer.proofs.Laws.Given.{passed}
 use Rattle.lexer.proofs.Laws.Places.{left-over}
 
 text-there : (w l : List ℕ) → take (length w) l ≡ w → behind w l ≡ some (drop (length w) l)

@@ -1,10 +1,8 @@
 -- What a reader gave, taken apart: the readers that it was put together of gave something too.
 -- Relies on the model's `found` and `andThen`; the laws of a known number here, and those of items above, rely on it.
-use Rattle.model.proofs.Kit.{_≡_, refl, ap, Bool, true, false, cond, List, none, some, Option, ℕ, arith}
+use Rattle.model.proofs.Kit.{_≡_, refl, ap, Bool, true, false, cond, List, none, some, Option, ℕ}
 use Rattle.model.specs.Forms.{Read, found, andThen}
-
-pub never : {A : Type 0} {B : Type 0} (a : A) → none ≡ some a → B
-never a e = absurd (let z : _≡_ {A = ℕ} 0 1 = cc in omega arith)
+use Rattle.model.proofs.Basics.Tests.{never}
 
 pub found-one : {A : Type 0} (a b : A) (k l : List ℕ) → found a k ≡ found b l → (a ≡ b) × (k ≡ l)
 unfolding found

@@ -4,7 +4,7 @@ use Rattle.model.proofs.Kit.{_≡_, refl, sym, ap, subst, _∙_, true, cond, _&
 use Rattle.model.proofs.Kit.{_≤_, _<_, _*_, ne-eqb, leb, length, drop, drop-of-length-le, getD, lt-of-not-le, w32, Fits}
 use Rattle.model.proofs.Kit.{arith}
 use Rattle.model.specs.Forms.{Read, found, andThen, digit, digitsFrom, natural, numberIn}
-use Rattle.model.proofs.Basics.Tests.{true-T, T-true}
+use Rattle.model.proofs.Basics.Tests.{true-T, T-true, never}
 use Rattle.model.proofs.Calls.Refusals.{within, within-T}
 use Rattle.model.proofs.Sheet.NumbersBack.{grows}
 use Rattle.lexer.specs.declared.number.FoundNumber.{FoundNumber}
@@ -13,7 +13,7 @@ use Rattle.lexer.specs.declared.known.KnownNumber.{KnownNumber}
 use Rattle.lexer.specs.Placed.{DigitsIs, NumberIs}
 use Rattle.lexer.specs.Known.{NumberStands, KnownIs}
 use Rattle.lexer.proofs.Laws.Places.{here}
-use Rattle.lexer.proofs.Laws.Given.{never, passed}
+use Rattle.lexer.proofs.Laws.Given.{passed}
 use Rattle.lexer.proofs.Laws.Numbers.{Along, is-digit, from-digits}
 use Rattle.lexer.proofs.Laws.Spaced.{number-found}
 

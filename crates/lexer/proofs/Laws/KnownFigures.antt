@@ -4,14 +4,14 @@ use Rattle.model.proofs.Kit.{_≡_, refl, sym, ap, _∙_, List, ℕ, _+_, _-_, 
 use Rattle.model.proofs.Kit.{drop-of-length-le, getD, lt-of-not-le, eqb, eqb-true, eqb-false, w32, toZ, SFits, arith}
 use Rattle.model.specs.Figure.{Figure}
 use Rattle.model.specs.Forms.{found, andThen, spaced, natural, numberIn, figureIn, orFour}
-use Rattle.model.proofs.Basics.Tests.{by-test}
+use Rattle.model.proofs.Basics.Tests.{by-test, never}
 use Rattle.lexer.specs.declared.number.FoundNumber.the-variants.{At}
 use Rattle.lexer.specs.declared.number.FoundFigure.the-variants as signed
 use Rattle.lexer.specs.declared.known.KnownNumber.{KnownNumber}
 use Rattle.lexer.specs.declared.known.KnownFigure.{KnownFigure}
 use Rattle.lexer.specs.Placed.{numberAt, NumberIs, FigureIs}
 use Rattle.lexer.specs.Known.{NumberStands, KnownIs, FigureStands, KnownFigureIs}
-use Rattle.lexer.proofs.Laws.Given.{never, found-one, through}
+use Rattle.lexer.proofs.Laws.Given.{found-one, through}
 use Rattle.lexer.proofs.Laws.Known.{stands-there, known-found, known-range}
 use Rattle.lexer.proofs.Laws.Spaced.{space-read, no-space, minus-read, plain-read, minus-found, plain-found}
 use Rattle.lexer.proofs.Laws.Spaced.{positive-fits, figure-found}

@@ -2,7 +2,7 @@
 -- Relies on the definitions of Bytes; all laws about soundness rely on it.
 use Rattle.model.proofs.Kit.{_≡_, refl, sym, Bool, true, false, cond, _&&_, _||_, not, inl, inr, ⊎-elim, _⊎_}
 use Rattle.model.proofs.Kit.{List, [], _∷_, ℕ, zero, suc, _<_, eqb, T, eqb→eq, eqb-refl, length, replicate}
-use Rattle.model.proofs.Kit.{eq-or-lt-of-le, arith}
+use Rattle.model.proofs.Kit.{none, some, eq-or-lt-of-le, arith}
 use native.Mathlib.Nat.{le-of-suc-le-suc}
 use Rattle.model.specs.Bytes.{every, zeros, implies}
 
@@ -47,6 +47,10 @@ impossible e = absurd (omega arith)
 
 pub clash : {X : Type 0} → true ≡ false → X
 clash e = impossible (cc)
+
+-- nothing is not something
+pub never : {A : Type 0} {X : Type 0} (a : A) → none ≡ some a → X
+never a e = impossible (cc)
 
 pub both-true : (a b : Bool) → a && b ≡ true → (a ≡ true) × (b ≡ true)
 both-true true b e = (refl, e)

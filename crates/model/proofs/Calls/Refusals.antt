@@ -9,11 +9,11 @@ use Rattle.model.specs.Calls.{After, Refusal, unless, Ranges, ranges, sh
 use Rattle.model.specs.Calls.{boardRefusal}
 use Rattle.model.specs.Calls.{stationRefusal, unlessRefused, lay, stepOn, step}
 use Rattle.model.specs.Filled.{refusal}
-use Rattle.model.proofs.Basics.Tests.{and-l, and-r, and-i, T-true, no-T}
+use Rattle.model.proofs.Basics.Tests.{never, and-l, and-r, and-i, T-true, no-T}
 use Rattle.model.proofs.Board.SoundFacts.{SoundBoard, sound-facts, facts-sound}
 
 pub some-none : {A : Type 0} {X : Type 0} (k : A) → some k ≡ none → X
-some-none k e = absurd (let z : _≡_ {A = ℕ} 0 1 = cc in omega arith)
+some-none k e = never k (sym e)
 
 -- A refusal is none or has a number.
 pub refusal-case : (r : Refusal) → (r ≡ none) ⊎ ((k : ℕ) × (r ≡ some k))

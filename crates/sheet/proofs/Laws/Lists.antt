@@ -10,7 +10,8 @@ use Rattle.sheet.specs.declared.rounds.Listed.the-variants.{At, Refused}
 use Rattle.sheet.specs.Counts.{readAs}
 use Rattle.sheet.specs.Lists.{Summary, summary, listedAt, ListedInside, ListIs}
 use Rattle.lexer.proofs.Laws.Answers.{back, was-read}
-use Rattle.lexer.proofs.Laws.Given.{never, found-one}
+use Rattle.model.proofs.Basics.Tests.{never}
+use Rattle.lexer.proofs.Laws.Given.{found-one}
 use Rattle.lexer.proofs.Laws.Places.{first-byte, behind-first, left-over}
 use Rattle.lexer.proofs.Laws.Spaced.{no-space-left}
 

@@ -15,7 +15,8 @@ use Rattle.model.specs.Forms.{orFour}
 use Rattle.lexer.specs.Placed.{numberAt, NumberIs}
 use Rattle.lexer.specs.Words.{WordIs}
 use Rattle.lexer.proofs.Laws.Behind.{text-found, word-missed, word-found, word-inside}
-use Rattle.lexer.proofs.Laws.Given.{never, passed, through}
+use Rattle.model.proofs.Basics.Tests.{never}
+use Rattle.lexer.proofs.Laws.Given.{passed, through}
 use Rattle.lexer.proofs.Laws.Places.{first-byte, left-over}
 use Rattle.lexer.proofs.Laws.Spaced.{number-missed, number-found, number-inside}
 use Rattle.sheet.specs.Counts.{TimesIs}

@@ -13,7 +13,7 @@ use Rattle.lexer.specs.declared.word.Named.the-variants.{Form, Nothing}
 use Rattle.sheet.specs.declared.form.LineForm.{LineForm}
 use Rattle.sheet.specs.declared.form.LineForm.the-variants.{Refused}
 use Rattle.lexer.specs.Words.{wordRow, namedRow}
-use Rattle.lexer.proofs.Laws.Given.{never}
+use Rattle.model.proofs.Basics.Tests.{never}
 use Rattle.lexer.proofs.Laws.Words.{named-row}
 use Rattle.sheet.specs.LineForms.{lineForm}
 

@@ -6,7 +6,7 @@ use Rattle.model.proofs.Basics.Tests.{and-false}
 use Rattle.model.specs.Bytes.{byte}
 use Rattle.model.specs.Show.{text}
 use Rattle.model.specs.Forms.{Read, found, andThen, spaced, natural, numberIn, same, closing}
-use Rattle.tape_model.specs.Tape.{endIn, readIn}
+use Rattle.model.specs.Tape.{endIn, readIn}
 use Rattle.lexer.specs.declared.number.FoundNumber.{FoundNumber}
 use Rattle.lexer.specs.declared.number.FoundNumber.the-variants as numbers
 use Rattle.lexer.specs.declared.number.FoundFigure.{FoundFigure}

@@ -9,7 +9,7 @@ use Rattle.model.specs.Figure.{Figure}
 use Rattle.model.specs.Filled.{Report}
 use Rattle.model.specs.Listing.{wrote, went, marked, adopted, decided, spent}
 use Rattle.model.specs.Forms.{found, andThen, same, WordRow, rowIn, upToStop}
-use Rattle.tape_model.specs.Tape.{readIn, kindRows, kindIn, byStation, entryIn, isEntry}
+use Rattle.model.specs.Tape.{readIn, kindRows, kindIn, byStation, entryIn, isEntry}
 use Rattle.lexer.specs.declared.number.FoundNumber.{FoundNumber}
 use Rattle.lexer.specs.declared.number.FoundNumber.the-variants as numbers
 use Rattle.lexer.specs.Placed.{NumberIs}

@@ -8,7 +8,7 @@ use Rattle.model.specs.declared.StepAnswer.the-variants.{Wrote, Read, Went, Mar
 use Rattle.model.specs.Figure.{Figure}
 use Rattle.model.specs.Listing.{read}
 use Rattle.model.specs.Show.{text, textFrom, decimalIn, decimal}
-use Rattle.tape_model.specs.Tape.{endText, kindText, entryText}
+use Rattle.model.specs.Tape.{endText, kindText, entryText}
 use Rattle.model.specs.Told.{told}
 use Rattle.shown.specs.declared.line.Line.{Line}
 use Rattle.shown.specs.Puts.{Holds, Puts, Room}

@@ -5,7 +5,7 @@ use Prim.Native.String.{String}
 use Rattle.model.specs.Figure.{Figure}
 use Rattle.model.specs.Listing.{Answer, wrote, read, went, marked, adopted, decided, spent, refused}
 use Rattle.model.specs.Show.{text, textFrom}
-use Rattle.tape_model.specs.Tape.{Entry, endText, kindText, entryText}
+use Rattle.model.specs.Tape.{Entry, endText, kindText, entryText}
 use Rattle.shown.proofs.Bounds.{length-signed}
 use Rattle.shown.proofs.Decimals.{length-any}
 

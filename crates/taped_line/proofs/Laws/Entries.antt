@@ -8,7 +8,7 @@ use Rattle.model.specs.Listing.{accepted, outcome}
 use Rattle.model.specs.Filled.{Report, refusal}
 use Rattle.model.specs.Calls.{After, Refusal, boardRefusal, unlessRefused, step, stepOn}
 use Rattle.model.specs.AnyList.{stepping, called, after}
-use Rattle.tape_model.specs.Tape.{Entry, entryOf, tapeOf}
+use Rattle.model.specs.Tape.{Entry, entryOf, tapeOf}
 use Rattle.model.proofs.Basics.Tests.{by-test}
 use Rattle.model.proofs.Calls.Refusals.{Board, step-on}
 use Rattle.model.proofs.Calls.Refused.{stepOn-refused}

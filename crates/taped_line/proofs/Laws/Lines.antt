@@ -14,7 +14,7 @@ use Rattle.model.specs.Forms as forms
 use Rattle.model.specs.Sheet.{Played, turnedDown, onBoard, playForm, playReading, playLine}
 use Rattle.model.specs.AnyList.{after}
 use Rattle.model.specs.SheetList.{singles, formCalls, callsOf}
-use Rattle.tape_model.specs.Tape.{entryOf, tapeOf}
+use Rattle.model.specs.Tape.{entryOf, tapeOf}
 use Rattle.model.proofs.Basics.Tests.{by-test}
 use Rattle.model.proofs.Sheet.PlayedLines.{no-board, on-board, run-leaves, rounds-leave}
 use Rattle.player.proofs.Laws.Parts.{part-taken, part-left}

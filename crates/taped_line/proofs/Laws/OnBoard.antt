@@ -11,7 +11,7 @@ use Rattle.model.specs.Forms.{Items, expand, reads, readLine}
 use Rattle.model.specs.Forms as forms
 use Rattle.model.specs.AnyList.{Call, stepping, after}
 use Rattle.model.specs.SheetList.{formCalls, callsOf}
-use Rattle.tape_model.specs.Tape.{tapeOf}
+use Rattle.model.specs.Tape.{tapeOf}
 use Rattle.model.specs.Told.{verdict}
 use Rattle.model.proofs.Calls.Refusals.{board-of}
 use Rattle.model.proofs.Sheet.PlayedLines.{steps-refused}

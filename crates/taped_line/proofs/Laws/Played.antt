@@ -5,7 +5,7 @@ use Rattle.model.specs.Calls.{boardRefusal}
 use Rattle.model.specs.Figure.{Figure}
 use Rattle.model.specs.Forms.{wordPlace, readLine}
 use Rattle.model.specs.Sheet.{playLine}
-use Rattle.tape_model.specs.Tape.{Entry}
+use Rattle.model.specs.Tape.{Entry}
 use Rattle.sheet.specs.declared.form.LineForm.{LineForm}
 use Rattle.sheet.specs.declared.form.LineForm.the-variants.{Board, Propose, Steps, Show, Rounds, Proposals, Refused}
 use Rattle.sheet.specs.LineForms.{lineForm}

@@ -3,7 +3,7 @@
 use Rattle.model.proofs.Kit.{_≡_, refl, ap, _∙_, List, [], _∷_, _++_, ℕ, _+_}
 use Rattle.model.specs.Sheet.{Played, playLine}
 use Rattle.model.specs.SheetList.{boardOf}
-use Rattle.tape_model.specs.Tape.{Entry, linesTape}
+use Rattle.model.specs.Tape.{Entry, linesTape}
 use Rattle.taped_line.specs.TapedLines.{lineTape}
 
 -- only the board in force counts, and not what was printed

@@ -11,7 +11,7 @@ use Rattle.model.specs.Forms.{Form, Reading, reads, unread, readLine, expand}
 use Rattle.model.specs.Forms as forms
 use Rattle.model.specs.AnyList.{Call, stepping}
 use Rattle.model.specs.SheetList.{formCalls, callsOf}
-use Rattle.tape_model.specs.Tape.{Entry, entryOf, tapeOf}
+use Rattle.model.specs.Tape.{Entry, entryOf, tapeOf}
 use Rattle.model.specs.Listing.{accepted}
 use Rattle.model.specs.AnyList as calls
 use Rattle.model.proofs.Basics.Tests.{cond-case}

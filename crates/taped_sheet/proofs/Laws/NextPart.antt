@@ -5,7 +5,7 @@ use Rattle.model.proofs.Kit.{lt-ltb, le-ltb, length, take, drop, take-all, leng
 use lib.Seq.{length-take-le, take-append-seam}
 use Rattle.model.specs.Bytes.{splice}
 use Rattle.model.specs.Sheet.{playLine}
-use Rattle.tape_model.specs.Tape.{Entry}
+use Rattle.model.specs.Tape.{Entry}
 use Rattle.lines.specs.Ends.{LineEnd}
 use Rattle.taping.specs.Taping.{slot}
 use Rattle.taped_line.specs.declared.TapedLine.{TapedLine}

@@ -7,7 +7,7 @@ use Rattle.model.proofs.Kit.{replicate, length-append, length-drop, take-append
 use lib.Seq.{drop-nil, drop-append-le, take-append-le}
 use Rattle.model.specs.Layout.{boardLength}
 use Rattle.model.specs.Sheet.{playLine, linesOf}
-use Rattle.tape_model.specs.Tape.{Entry, entryText, linesTape, begun, sheetTape, tapeText}
+use Rattle.model.specs.Tape.{Entry, entryText, linesTape, begun, sheetTape, tapeText}
 use Rattle.model.proofs.Basics.Ended.{front, parts-at, no-parts}
 use Rattle.model.proofs.Basics.Tests.{by-test, cond-case}
 use Rattle.taped_line.specs.TapedLines.{lineTape}

@@ -4,7 +4,7 @@ use Rattle.model.proofs.Kit.{_≡_, refl, sym, ap, subst, _∙_, List, [], _∷
 use Rattle.model.proofs.Kit.{ne-eqb, length, take, drop, length-append, arith}
 use lib.Seq.{drop-nil}
 use Rattle.model.specs.Bytes.{splice}
-use Rattle.tape_model.specs.Tape.{Entry, entryText, tapeText}
+use Rattle.model.specs.Tape.{Entry, entryText, tapeText}
 use Rattle.model.proofs.Basics.Splices.{splice-none, splice-join}
 use Rattle.taping.specs.Taping.{Taping, tapeLine, lineTaken}
 use Rattle.taped_line.specs.TapedLines.{entryTaped, entriesTaped}

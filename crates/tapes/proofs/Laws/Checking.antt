@@ -2,14 +2,14 @@
 -- Relies on where a line ends; the proofs of `all_entries` and `blamed` rely on it.
 use Rattle.model.proofs.Kit.{_≡_, refl, sym, ap, _∙_, Bool, true, false, not, _&&_, cond, List, some, ℕ, _+_, _-_, _≤_}
 use Rattle.model.proofs.Kit.{_<_, length, take, drop}
-use Rattle.tape_model.specs.declared.Tap.the-variants as tap
+use borrow.Author.Tests.{not-true, not-false}
+use Rattle.model.specs.declared.Tap.the-variants as tap
 use Rattle.model.specs.Sheet.{linesOf}
-use Rattle.tape_model.specs.Tape.{first, second, isEntry, taped, culprit}
-use Rattle.tape_model.specs.TapeTold.{tapTold}
+use Rattle.model.specs.Tape.{first, second, isEntry, taped, culprit}
+use Rattle.model.specs.Told.{tapTold}
 use Rattle.model.proofs.Basics.Ended.{no-parts}
 use Rattle.lexer.proofs.Laws.Words.{same-says}
 use Rattle.lines.specs.Ends.{LineEnd}
-use Rattle.tapes.proofs.Laws.Differences.{like, unlike}
 
 -- the lines before `at` are step answers
 unfoldable pub Checked : (tape : List ℕ) (at : ℕ) → Type 0
@@ -34,18 +34,18 @@ module _ (tape : List ℕ) (at : ℕ) (so-far : Checked tape at) where
 
     pub checked-more : not r ≡ false → Checked tape (end + 1)
     unfolding Checked
-    checked-more q = one ∙ ap (λ (t : Bool). t && taped (linesOf (drop (end + 1) tape))) (like r q)
+    checked-more q = one ∙ ap (λ (t : Bool). t && taped (linesOf (drop (end + 1) tape))) (not-false r q)
 
     pub not-checked : not r ≡ true → false ≡ taped (linesOf tape)
-    not-checked q = sym (one ∙ ap (λ (t : Bool). t && taped (linesOf (drop (end + 1) tape))) (unlike r q))
+    not-checked q = sym (one ∙ ap (λ (t : Bool). t && taped (linesOf (drop (end + 1) tape))) (not-true r q))
 
 -- ---- the blame
 
 module _ (l o : List ℕ) (r : Bool) (says : (r ≡ true → l ≡ o) × (l ≡ o → r ≡ true)) where
-  pub blames-second : r ≡ true → tapTold tap.Second ≡ culprit (some o) (some l)
+  pub blames-second : not r ≡ false → tapTold tap.Second ≡ culprit (some o) (some l)
   unfolding tapTold culprit
-  blames-second e = sym (ap (λ (t : Bool). cond t second first) (same-says l o r true says e))
+  blames-second e = sym (ap (λ (t : Bool). cond t second first) (same-says l o r true says (not-false r e)))
 
-  pub blames-first : r ≡ false → tapTold tap.First ≡ culprit (some o) (some l)
+  pub blames-first : not r ≡ true → tapTold tap.First ≡ culprit (some o) (some l)
   unfolding tapTold culprit
-  blames-first e = sym (ap (λ (t : Bool). cond t second first) (same-says l o r false says e))
+  blames-first e = sym (ap (λ (t : Bool). cond t second first) (same-says l o r false says (not-true r e)))

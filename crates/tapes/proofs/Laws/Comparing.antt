@@ -3,28 +3,27 @@
 use Rattle.model.proofs.Kit.{_≡_, refl, sym, ap, subst, _∙_, Bool, true, false, not, _&&_, List, [], _∷_, none, some}
 use Rattle.model.proofs.Kit.{ℕ, zero, suc, _-_, _≤_, _<_, le-leb, lt-leb, length, take, drop, length-drop, arith}
 use lib.Seq.{length-take-le}
-use Rattle.tape_model.specs.declared.Tap as taps
-use Rattle.tape_model.specs.declared.Tap.the-variants as tap
-use Rattle.tape_model.specs.declared.Comparison.{Comparison}
-use Rattle.tape_model.specs.declared.Comparison.the-variants.{Alike, Differ, Refused}
+use borrow.Author.Tests.{not-true, not-false}
+use Rattle.model.specs.declared.Tap as taps
+use Rattle.model.specs.declared.Tap.the-variants as tap
+use Rattle.model.specs.declared.Comparison.{Comparison}
+use Rattle.model.specs.declared.Comparison.the-variants.{Alike, Differ, Refused}
 use Rattle.model.specs.Sheet.{linesOf}
-use Rattle.tape_model.specs.Tape.{Tap, first, second, differs, TapePart, emptyPart, partOf}
-use Rattle.tape_model.specs.Tape.{ownLines, lineAt, lineStart, culprit, taped, compare, culpritPart}
-use Rattle.tape_model.specs.TapeTold.{tapTold, comparisonTold, startTold, lengthTold}
+use Rattle.model.specs.Tape.{Tap, first, second, differs, TapePart, emptyPart, partOf}
+use Rattle.model.specs.Tape.{ownLines, lineAt, lineStart, culprit, taped, compare, culpritPart}
+use Rattle.model.specs.Told.{tapTold, comparisonTold, startTold, lengthTold}
+use Rattle.model.proofs.Basics.Tests.{never}
 use Rattle.tapes.specs.declared.difference.Gap.{Gap}
 use Rattle.tapes.specs.declared.difference.Gap.the-variants.{Nowhere, At}
 use Rattle.tapes.specs.Differences.{Stands, GapIs}
 use Rattle.tapes.specs.Comparing.{Fits, Inside, Compares}
 use Rattle.tape_laws.specs.TwoTapes.{tapeBy}
-use Rattle.tapes.proofs.Laws.Differences.{like, unlike}
-use Rattle.tapes.proofs.Laws.Own.{some-is-none}
+use Rattle.tape_laws.proofs.Compared.{no-zeroth}
 
 -- a line with a number is no line before the first
 counted : (ls : List (List ℕ)) (k : ℕ) (l : List ℕ) → lineAt k ls ≡ some l → 1 ≤ k
-unfolding lineAt
-counted [] k l e = absurd (some-is-none l e)
-counted (m ∷ ls) zero l e = absurd (some-is-none l e)
-counted (m ∷ ls) (suc k) l e = omega arith
+counted ls zero l e = never l (sym (no-zeroth ls) ∙ e)
+counted ls (suc k) l e = omega arith
 
 -- an answer with the part that stands on a tape from one place up to another
 located : (s a b : List ℕ) (r : Comparison) (k : ℕ) (t : Tap) (tape : List ℕ) (start end : ℕ) → Stands tape k start end
@@ -71,16 +70,16 @@ module _ (s a b : List ℕ) where
     untaped e = empty-handed (Refused 21) (rw (le-leb (length s) 32768 short, e)) refl refl refl tt
 
     pub first-untaped : (r : Bool) → r ≡ taped (linesOf a) → not r ≡ true → Compares s a b (Refused 21)
-    first-untaped r e n = untaped (ap (λ (t : Bool). t && taped (linesOf b)) (sym e ∙ unlike r n))
+    first-untaped r e n = untaped (ap (λ (t : Bool). t && taped (linesOf b)) (sym e ∙ not-true r n))
 
     module _ (p : Bool) (is-first : p ≡ taped (linesOf a)) (taped-first : not p ≡ false) where
       pub second-untaped : (r : Bool) → r ≡ taped (linesOf b) → not r ≡ true → Compares s a b (Refused 21)
       second-untaped r e n =
-          untaped (λ j. (sym is-first ∙ like p taped-first) j && (sym e ∙ unlike r n) j)
+          untaped (λ j. (sym is-first ∙ not-false p taped-first) j && (sym e ∙ not-true r n) j)
 
       module _ (q : Bool) (is-second : q ≡ taped (linesOf b)) (taped-second : not q ≡ false) where
         both : taped (linesOf a) && taped (linesOf b) ≡ true
-        both = (λ j. (sym is-first ∙ like p taped-first) j && (sym is-second ∙ like q taped-second) j)
+        both = (λ j. (sym is-first ∙ not-false p taped-first) j && (sym is-second ∙ not-false q taped-second) j)
 
         module _ (g : Gap) (gap-is : GapIs a b g) where
           pub never-differ : g ≡ Nowhere → Compares s a b Alike

@@ -3,23 +3,15 @@
 use Rattle.model.proofs.Kit.{_≡_, refl, sym, ap, subst, _∙_, Bool, true, false, not, cond, List, [], _∷_, none, some}
 use Rattle.model.proofs.Kit.{ℕ, suc, _+_, _-_, _≤_, _<_, length, take, drop, length-drop, zero-add, arith}
 use lib.Seq.{length-take-le}
+use borrow.Author.Tests.{not-true, not-false}
 use Rattle.model.specs.Forms.{same}
 use Rattle.model.specs.Sheet.{linesOf}
-use Rattle.tape_model.specs.Tape.{lineAt, lineStart, differFrom}
+use Rattle.model.specs.Tape.{lineAt, lineStart, differFrom}
 use Rattle.model.proofs.Basics.Ended.{no-parts}
 use Rattle.lexer.proofs.Laws.Words.{same-says}
 use Rattle.lines.specs.Ends.{LineEnd}
 use Rattle.tapes.specs.declared.difference.Gap.the-variants.{Nowhere, At}
 use Rattle.tapes.specs.Differences.{Stands, GapIs}
-
--- two texts that are not the same, and two that are
-pub unlike : (r : Bool) → not r ≡ true → r ≡ false
-unlike true e = sym e
-unlike false e = refl
-
-pub like : (r : Bool) → not r ≡ false → r ≡ true
-like true e = refl
-like false e = sym e
 
 -- ---- one tape
 
@@ -111,7 +103,7 @@ module _ (a b : List ℕ) (number at : ℕ) (so-far : Alike a b number at) where
     pub differ-here : not r ≡ true → GapIs a b (At (number + 1) at e f)
     unfolding GapIs
     differ-here q = (
-      both ∙ rw (unlike r q) (ap some (omega arith)),
+      both ∙ rw (not-true r q) (ap some (omega arith)),
       stands a number at e (so-far .first) ends-a in-a,
       stands b number at f (so-far .second) ends-b in-b,
     )
@@ -119,7 +111,7 @@ module _ (a b : List ℕ) (number at : ℕ) (so-far : Alike a b number at) where
     pub alike-more : not r ≡ false → Alike a b (number + 1) (e + 1)
     alike-more q = record {
       rest =
-          both ∙ rw (like r q) ((λ j. differFrom (one j) (linesOf (drop (e + 1) a)) (linesOf (drop (place j + 1) b))));
+          both ∙ rw (not-false r q) ((λ j. differFrom (one j) (linesOf (drop (e + 1) a)) (linesOf (drop (place j + 1) b))));
       first = one-more a number at e (so-far .first) ends-a in-a;
       second =
           subst (λ (k : ℕ). Numbered b (number + 1) (k + 1)) place
@@ -134,7 +126,7 @@ module _ (a b : List ℕ) (number at : ℕ) (so-far : Alike a b number at) where
         place =
             omega (
               arith,
-              ap length (says .0 (like r q)),
+              ap length (says .0 (not-false r q)),
               length-take-le (e - at) (drop at a) (omega (arith, length-drop at a, ends-a .inside, ends-a .behind)),
               length-take-le (f - at) (drop at b) (omega (arith, length-drop at b, ends-b .inside, ends-b .behind)),
               ends-a .behind,

@@ -6,12 +6,13 @@ use Rattle.model.proofs.Kit.{_+_, _-_, _≤_, _<_, length, take, drop, replicat
 use Rattle.model.proofs.Kit.{ne-eqb, arith}
 use mathlib.Core.List.{map-append}
 use lib.Seq.{take-append-seam, length-take-le}
-use Rattle.tape_model.specs.declared.Tap.the-variants as tap
+use Rattle.model.specs.declared.Tap.the-variants as tap
 use Rattle.model.specs.Bytes.{splice}
 use Rattle.model.specs.Layout.{boardLength}
 use Rattle.model.specs.Sheet.{playLine, linesOf}
-use Rattle.tape_model.specs.Tape.{Entry, entryText, linesTape, begun, sheetTape, ownLines, lineAt, Tap, culprit}
-use Rattle.tape_model.specs.TapeTold.{tapTold}
+use Rattle.model.specs.Tape.{Entry, entryText, linesTape, begun, sheetTape, ownLines, lineAt, Tap, culprit}
+use Rattle.model.specs.Told.{tapTold}
+use Rattle.model.proofs.Basics.Tests.{never}
 use Rattle.model.proofs.Basics.Ended.{no-parts}
 use Rattle.tape_writer.proofs.Laws.WritingLength.{line-short}
 use Rattle.taping.specs.Taping.{Taping, tapeLine, lineTaken, slot}
@@ -20,9 +21,6 @@ use Rattle.taped_line.specs.TapedLines.{entryTaped, entriesTaped, Room, lineTap
 use Rattle.taped_line.proofs.Laws.Entries.{entries-full}
 use Rattle.taped_line.proofs.Laws.Sheets.{standing, first-line}
 use Rattle.lines.specs.Ends.{LineEnd}
-
-pub some-is-none : {A : Type 0} (a : A) → none ≡ some a → ⊥
-some-is-none a e = let z : _≡_ {A = ℕ} 0 1 = cc in omega arith
 
 -- the buffer has room for one line
 pub own-room : (own : List ℕ) (k : ℕ) → length own ≡ 56 → Room own (record { left = k; room = 1; len = 0 })
@@ -84,7 +82,7 @@ looked (e ∷ es) (suc k) out = by (looked es k out)
 in-first : (ls ms : List (List ℕ)) (k : ℕ) (l : List ℕ) → lineAt (suc k) ls ≡ some l
     → lineAt (suc k) (ls ++ ms) ≡ some l
 unfolding lineAt
-in-first [] ms k l e = absurd (some-is-none l e)
+in-first [] ms k l e = never l e
 in-first (m ∷ ls) ms zero l e = e
 in-first (m ∷ ls) ms (suc k) l e = in-first ls ms k l e
 

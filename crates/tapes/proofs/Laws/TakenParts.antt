@@ -2,13 +2,12 @@
 -- Relies on what is promised of a part; the proofs of `part_of` and `culprit_line` rely on it.
 use Rattle.model.proofs.Kit.{_≡_, refl, sym, ap, subst, _∙_, List, [], ℕ, _+_, _-_, _≤_, length, take, drop, arith}
 use denote.Ref.{RefT}
-use Rattle.tape_model.specs.declared.Tap as taps
-use Rattle.tape_model.specs.declared.Tap.the-variants as tap
-use Rattle.tape_model.specs.TapeTold.{tapTold}
-use Rattle.tape_model.specs.declared.Comparison.{Comparison}
-use Rattle.tape_model.specs.declared.Comparison.the-variants.{Alike, Differ, Refused}
-use Rattle.tape_model.specs.Tape.{Tap, first, second, Compared, differs, TapePart, emptyPart, compare, culpritPart}
-use Rattle.tape_model.specs.TapeTold.{comparisonTold, startTold, lengthTold}
+use Rattle.model.specs.declared.Tap as taps
+use Rattle.model.specs.declared.Tap.the-variants as tap
+use Rattle.model.specs.Told.{tapTold, comparisonTold, startTold, lengthTold}
+use Rattle.model.specs.declared.Comparison.{Comparison}
+use Rattle.model.specs.declared.Comparison.the-variants.{Alike, Differ, Refused}
+use Rattle.model.specs.Tape.{Tap, first, second, Compared, differs, TapePart, emptyPart, compare, culpritPart}
 use Rattle.tape_laws.specs.TwoTapes.{tapeBy, PartStands, CulpritStands}
 use Rattle.tape_laws.proofs.Parts.{culprit-stands}
 use Rattle.tapes.specs.Comparing.{Fits, Inside, Compares, PartIs, PartTaken}

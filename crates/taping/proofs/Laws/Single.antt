@@ -12,7 +12,7 @@ use Rattle.model.specs.Filled.{Report}
 use Rattle.model.specs.Listing.{accepted}
 use Rattle.model.specs.Calls.{stepOn}
 use Rattle.model.specs.Runs.{taken, answers, after}
-use Rattle.tape_model.specs.Tape.{Entry, entryText}
+use Rattle.model.specs.Tape.{Entry, entryText}
 use Rattle.model.specs.Told.{told}
 use Rattle.model.proofs.Basics.Tests.{by-test}
 use Rattle.model.proofs.Calls.Refused.{stepOn-refused}

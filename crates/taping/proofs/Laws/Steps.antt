@@ -9,7 +9,7 @@ use Rattle.model.specs.Listing.{accepted}
 use Rattle.model.specs.Calls.{stepOn}
 use Rattle.model.specs.Forms.{repeated}
 use Rattle.model.specs.Runs.{after}
-use Rattle.tape_model.specs.Tape.{Entry}
+use Rattle.model.specs.Tape.{Entry}
 use Rattle.model.proofs.Basics.Splices.{length-splice}
 use Rattle.model.proofs.Basics.Tests.{cond-case}
 use Rattle.stepping.proofs.Laws.Repeated.{Ran, ran-none, ran-then}

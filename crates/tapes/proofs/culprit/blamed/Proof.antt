@@ -7,4 +7,4 @@ use Rattle.tapes.proofs.culprit.blamed.Tie as tie
 
 pub blamed-spec : {M : Type 1} → statement M
 blamed-spec =
-    tie.close (tie.spec (λ c κs. search needs) (λ c. search blames-second) (λ c. search blames-first))
+    tie.close (tie.spec (λ c κs. search needs) (λ c. search blames-first) (λ c. search blames-second))

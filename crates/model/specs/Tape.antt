@@ -1,22 +1,22 @@
 -- 02, Seven, "Two tapes of one run": the line of a tape, the tape of a run sheet, and two tapes compared.
--- Relies on the calls' answers, on the readers of numbers and on the single calls of a sheet's lines; the
--- comparison of tapes and the tape of a sheet in parts rely on it.
+-- Relies on the calls' answers, on the readers of numbers and on the single calls of a sheet's lines; the calls that
+-- compare tapes and the program that writes one rely on it.
 use Rattle.model.specs.Kit.{Bool, true, false, _&&_, cond, List, [], _∷_, _++_, Option, none, some, ℕ, zero, suc}
 use Rattle.model.specs.Kit.{_+_, eqb, leb, length, drop, replicate}
 use mathlib.Core.List.{map}
 use Prim.Native.String.{String}
 use Rattle.model.specs.Bytes.{byte}
 use Rattle.model.specs.Figure.{Figure}
 use Rattle.model.specs.Listing.{Answer, wrote, read, went, marked, adopted, decided, spent, refused, accepted}
 use Rattle.model.specs.Filled.{Report}
 use Rattle.model.specs.Layout.{boardLength}
 use Rattle.model.specs.Calls.{step}
 use Rattle.model.specs.Show.{text, decimal, signed}
 use Rattle.model.specs.Forms.{andThen, spaced, numberIn, figureIn, same, closing, WordRow, rowIn, upToStop}
 use Rattle.model.specs.Forms.{readLine}
 use Rattle.model.specs.Sheet.{Played, playLine, linesOf}
 use Rattle.model.specs.AnyList.{Call, laying, proposing, stepping, called}
 use Rattle.model.specs.SheetList.{callsOf, boardOf}
 
 -- ---- the line of a tape
 

@@ -1,0 +1,2 @@
+-- Laws that the proof of the program cites.
+pub mod Laws
