@@ -1,21 +1,20 @@
-// Whether every line of a tape is a step answer.
+// Up to where all lines of a tape are step answers.
 // Relies on the reader of a tape line; the comparison of tapes relies on it.
-ghost use mathlib.Core.Path.{_≡_};
-ghost use Rattle.model.specs.Sheet.{linesOf};
-ghost use Rattle.model.specs.Tape.{taped};
+ghost use Rattle.tapes.specs.Tested.{Tested};
 use lines::line_end;
 use tape_reader::is_entry;
 
-pub fn all_entries(tape: &[u8]) -> bool
-    ensures { λ r. ⌜ r ≡ taped (linesOf (now (tape .entry))) ⌝ }
+// The place of the first line that is none, or the tape's length.
+pub fn entries_end(tape: &[u8]) -> usize
+    ensures { λ r. ⌜ Tested (now (tape .entry)) r ⌝ }
 {
     let mut at = 0;
     while at < tape.len() {
         let end = line_end(tape, at);
         if !is_entry(&tape[at..end]) {
-            return false;
+            return at;
         }
         at = end + 1;
     }
-    true
+    tape.len()
 }

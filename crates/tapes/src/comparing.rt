@@ -4,48 +4,43 @@
 ghost use Rattle.tapes.specs.Comparing.{Compares, PartIs, PartTaken, Fits};
 ghost use Rattle.model.specs.Tape as tape;
 ghost use Rattle.model.specs.Tape.{culpritPart};
-use crate::checking::all_entries;
+use crate::checking::entries_end;
 use crate::culprit::culprit_of;
-use crate::difference::Gap;
 use crate::difference::first_difference;
 use model::Comparison;
 use model::Tap;
 
-// Refusals 1 and 21, and then the first difference, if there is one.
+// Refusals 1 and 21, of which 21 is for any line of either tape, and then the first difference, if there is one.
 pub fn compare(sheet: &[u8], first: &[u8], second: &[u8]) -> Comparison
     ensures { λ r. ⌜ Compares (now (sheet .entry)) (now (first .entry)) (now (second .entry)) r ⌝ }
 {
     if 32768 < sheet.len() {
         return Comparison::Refused { number: 1 };
     }
-    if !all_entries(first) {
+    let gap = first_difference(first, second);
+    if entries_end(first) < first.len() {
         return Comparison::Refused { number: 21 };
     }
-    if !all_entries(second) {
+    if entries_end(second) < second.len() {
         return Comparison::Refused { number: 21 };
     }
-    let Gap::At {
-        number,
-        start,
-        first_end,
-        second_end,
-    } = first_difference(first, second)
-    else {
+    if !gap.differ {
         return Comparison::Alike;
-    };
-    let tap = culprit_of(sheet, number, &first[start..first_end]);
-    match tap {
+    }
+    let start = gap.start;
+    let first_end = gap.first;
+    match culprit_of(sheet, gap.number, &first[start..first_end]) {
         Tap::First => Comparison::Differ {
-            line: number,
+            line: gap.number,
             tap: Tap::First,
             start,
             len: first_end - start,
         },
         Tap::Second => Comparison::Differ {
-            line: number,
+            line: gap.number,
             tap: Tap::Second,
             start,
-            len: second_end - start,
+            len: gap.second - start,
         },
     }
 }

@@ -23,5 +23,11 @@ tape-round-spec =
     (λ c. (omega arith, search turns-begun)) (λ c. record { fits = omega (arith, n-high) })
     (λ c. record { fits = omega (arith, n-high) }) (λ c. omega (arith, n-high))
     (λ c. record { fits = omega (arith, n-high) }) (λ c κs. search turns-ready)
-    (λ c. record { fits = omega (arith, n-high) }) (λ c. omega arith) (λ c. (omega arith, search one-turn-more))
+    (λ c. record { fits = omega (arith, n-high) }) (λ c. omega arith)
+    (λ c. (
+      omega arith,
+      one-turn-more _ _ _ _ _ _ _ _ _
+          (c .before .before .before .before .before .before .before .before .loop .inv .1) _ _ _
+          (c .before .before .before .before .tape-station .ensures),
+    ))
     (λ c. search turns-board) (λ c. search turns-out) (λ c. search (turns-ended, needs)))

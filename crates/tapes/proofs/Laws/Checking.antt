@@ -1,7 +1,7 @@
 -- A tape tested line by line, and the blame by the algorithm's own line.
--- Relies on where a line ends; the proofs of `all_entries` and `blamed` rely on it.
+-- Relies on where a line ends; the proofs of `entries_end` and `blamed` rely on it.
 use Rattle.model.proofs.Kit.{_≡_, refl, sym, ap, _∙_, Bool, true, false, not, _&&_, cond, List, some, ℕ, _+_, _-_, _≤_}
-use Rattle.model.proofs.Kit.{_<_, length, take, drop}
+use Rattle.model.proofs.Kit.{_<_, length, take, drop, arith}
 use borrow.Author.Tests.{not-true, not-false}
 use Rattle.model.specs.declared.Tap.the-variants as tap
 use Rattle.model.specs.Sheet.{linesOf}
@@ -10,6 +10,7 @@ use Rattle.model.specs.Told.{tapTold}
 use Rattle.model.proofs.Basics.Ended.{no-parts}
 use Rattle.lexer.proofs.Laws.Words.{same-says}
 use Rattle.lines.specs.Ends.{LineEnd}
+use Rattle.tapes.specs.Tested.{Tested}
 
 -- the lines before `at` are step answers
 unfoldable pub Checked : (tape : List ℕ) (at : ℕ) → Type 0
@@ -20,9 +21,12 @@ unfolding Checked
 checked-begun tape = refl
 
 module _ (tape : List ℕ) (at : ℕ) (so-far : Checked tape at) where
-  pub checked-all : length tape ≤ at → true ≡ taped (linesOf tape)
+  pub checked-all : length tape ≤ at → Tested tape (length tape)
   unfolding Checked taped
-  checked-all h = sym (so-far ∙ ap taped (no-parts 10 tape at h))
+  checked-all h = record {
+    whole = λ all. so-far ∙ ap taped (no-parts 10 tape at h);
+    broken = λ short. absurd (omega (arith, short));
+  }
 
   module _ (end : ℕ) (ends : LineEnd tape at end) (inside : at < length tape) (r : Bool)
       (says : r ≡ isEntry (take (end - at) (drop at tape))) where
@@ -36,8 +40,11 @@ module _ (tape : List ℕ) (at : ℕ) (so-far : Checked tape at) where
     unfolding Checked
     checked-more q = one ∙ ap (λ (t : Bool). t && taped (linesOf (drop (end + 1) tape))) (not-false r q)
 
-    pub not-checked : not r ≡ true → false ≡ taped (linesOf tape)
-    not-checked q = sym (one ∙ ap (λ (t : Bool). t && taped (linesOf (drop (end + 1) tape))) (not-true r q))
+    pub not-checked : not r ≡ true → Tested tape at
+    not-checked q = record {
+      whole = λ all. absurd (omega (arith, all, inside));
+      broken = λ short. one ∙ ap (λ (t : Bool). t && taped (linesOf (drop (end + 1) tape))) (not-true r q);
+    }
 
 -- ---- the blame
 

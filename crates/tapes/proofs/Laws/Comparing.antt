@@ -14,8 +14,8 @@ use Rattle.model.specs.Tape.{ownLines, lineAt, lineStart, culprit, taped, compa
 use Rattle.model.specs.Told.{tapTold, comparisonTold, startTold, lengthTold}
 use Rattle.model.proofs.Basics.Tests.{never}
 use Rattle.tapes.specs.declared.difference.Gap.{Gap}
-use Rattle.tapes.specs.declared.difference.Gap.the-variants.{Nowhere, At}
-use Rattle.tapes.specs.Differences.{Stands, GapIs}
+use Rattle.tapes.specs.Differences.{Stands, DifferAt, GapIs}
+use Rattle.tapes.specs.Tested.{Tested}
 use Rattle.tapes.specs.Comparing.{Fits, Inside, Compares}
 use Rattle.tape_laws.specs.TwoTapes.{tapeBy}
 use Rattle.tape_laws.proofs.Compared.{no-zeroth}
@@ -69,36 +69,44 @@ module _ (s a b : List ℕ) where
     unfolding compare comparisonTold startTold lengthTold culpritPart Inside
     untaped e = empty-handed (Refused 21) (rw (le-leb (length s) 32768 short, e)) refl refl refl tt
 
-    pub first-untaped : (r : Bool) → r ≡ taped (linesOf a) → not r ≡ true → Compares s a b (Refused 21)
-    first-untaped r e n = untaped (ap (λ (t : Bool). t && taped (linesOf b)) (sym e ∙ not-true r n))
+    pub first-untaped : (p : ℕ) → Tested a p → p < length a → Compares s a b (Refused 21)
+    first-untaped p tested h = untaped (ap (λ (t : Bool). t && taped (linesOf b)) (tested .broken h))
 
-    module _ (p : Bool) (is-first : p ≡ taped (linesOf a)) (taped-first : not p ≡ false) where
-      pub second-untaped : (r : Bool) → r ≡ taped (linesOf b) → not r ≡ true → Compares s a b (Refused 21)
-      second-untaped r e n =
-          untaped (λ j. (sym is-first ∙ not-false p taped-first) j && (sym e ∙ not-true r n) j)
+    module _ (p : ℕ) (tested-first : Tested a p) (whole-first : length a ≤ p) where
+      pub second-untaped : (q : ℕ) → Tested b q → q < length b → Compares s a b (Refused 21)
+      second-untaped q tested h = untaped (λ j. tested-first .whole whole-first j && tested .broken h j)
 
-      module _ (q : Bool) (is-second : q ≡ taped (linesOf b)) (taped-second : not q ≡ false) where
+      module _ (q : ℕ) (tested-second : Tested b q) (whole-second : length b ≤ q) where
         both : taped (linesOf a) && taped (linesOf b) ≡ true
-        both = (λ j. (sym is-first ∙ not-false p taped-first) j && (sym is-second ∙ not-false q taped-second) j)
+        both = (λ j. tested-first .whole whole-first j && tested-second .whole whole-second j)
 
-        module _ (g : Gap) (gap-is : GapIs a b g) where
-          pub never-differ : g ≡ Nowhere → Compares s a b Alike
-          unfolding GapIs compare comparisonTold startTold lengthTold culpritPart Inside
-          never-differ q =
-              empty-handed Alike (rw (le-leb (length s) 32768 short, both, subst (GapIs a b) q gap-is)) refl refl refl
-              tt
+        pub never-differ : (g : Gap) → GapIs a b g → not (g .differ) ≡ true → Compares s a b Alike
+        unfolding compare comparisonTold startTold lengthTold culpritPart Inside
+        never-differ g gap-is h =
+            empty-handed Alike
+            (rw (le-leb (length s) 32768 short, both, gap-is .nowhere (not-true (g .differ) h))) refl refl refl tt
 
-module _ (a b : List ℕ) (g : Gap) (gap-is : GapIs a b g) (k start e f : ℕ) (at : g ≡ At k start e f) where
-  gap : GapIs a b (At k start e f)
-  gap = subst (GapIs a b) at gap-is
+module _ (a b : List ℕ) (g : Gap) (gap-is : GapIs a b g) (differ : not (g .differ) ≡ false) where
+  abbrev k : ℕ
+  k = g .number
+
+  abbrev start : ℕ
+  start = g .start
+
+  abbrev e : ℕ
+  e = g .first
+
+  abbrev f : ℕ
+  f = g .second
+
+  gap : DifferAt a b g
+  gap = gap-is .here (not-false (g .differ) differ)
 
   first-stands : Stands a k start e
-  unfolding GapIs
-  first-stands = gap .1
+  first-stands = gap .first
 
   second-stands : Stands b k start f
-  unfolding GapIs
-  second-stands = gap .2
+  second-stands = gap .second
 
   -- the lines that both tapes have there
   pub first-order : start ≤ e
@@ -116,16 +124,16 @@ module _ (a b : List ℕ) (g : Gap) (gap-is : GapIs a b g) (k start e f : ℕ) (
   pub some-number : 1 ≤ k
   some-number = counted (linesOf a) k _ (first-stands .line)
 
-  module _ (s : List ℕ) (short : length s ≤ 32768) (p q : Bool) (is-first : p ≡ taped (linesOf a))
-      (taped-first : not p ≡ false) (is-second : q ≡ taped (linesOf b)) (taped-second : not q ≡ false) (t : taps.Tap)
+  module _ (s : List ℕ) (short : length s ≤ 32768) (p q : ℕ) (tested-first : Tested a p) (whole-first : length a ≤ p)
+      (tested-second : Tested b q) (whole-second : length b ≤ q) (t : taps.Tap)
       (says : tapTold t ≡ culprit (lineAt k (ownLines s)) (some (take (e - start) (drop start a)))) where
     answers : compare s a b ≡ differs k (tapTold t)
-    unfolding GapIs compare
+    unfolding compare
     answers =
         rw (
           le-leb (length s) 32768 short,
-          both s a b short p is-first taped-first q is-second taped-second,
-          gap .0,
+          both s a b short p tested-first whole-first q tested-second whole-second,
+          gap .number,
           first-stands .line,
         ) (ap (differs k) (sym says))
 

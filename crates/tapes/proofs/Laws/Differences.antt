@@ -7,11 +7,12 @@ use borrow.Author.Tests.{not-true, not-false}
 use Rattle.model.specs.Forms.{same}
 use Rattle.model.specs.Sheet.{linesOf}
 use Rattle.model.specs.Tape.{lineAt, lineStart, differFrom}
+use Rattle.model.proofs.Basics.Tests.{clash}
 use Rattle.model.proofs.Basics.Ended.{no-parts}
 use Rattle.lexer.proofs.Laws.Words.{same-says}
 use Rattle.lines.specs.Ends.{LineEnd}
-use Rattle.tapes.specs.declared.difference.Gap.the-variants.{Nowhere, At}
-use Rattle.tapes.specs.Differences.{Stands, GapIs}
+use Rattle.tapes.specs.declared.difference.Gap.{Gap}
+use Rattle.tapes.specs.Differences.{Stands, DifferAt, GapIs}
 
 -- ---- one tape
 
@@ -72,21 +73,27 @@ pub alike-begun : (a b : List ℕ) → Alike a b 0 0
 alike-begun a b = record { rest = refl; first = none-before a; second = none-before b; few = omega arith }
 
 module _ (a b : List ℕ) (number at : ℕ) (so-far : Alike a b number at) where
-  -- the first tape ends
-  pub first-ended : length a ≤ at → GapIs a b Nowhere
-  unfolding GapIs differFrom
-  first-ended h =
-      so-far .rest ∙ ap (λ (ls : List (List ℕ)). differFrom number ls (linesOf (drop at b))) (no-parts 10 a at h)
+  module _ (g : Gap) (says-no : g .differ ≡ false) where
+    is-nowhere : differFrom 0 (linesOf a) (linesOf b) ≡ none → GapIs a b g
+    is-nowhere e = record { here = λ yes. clash (sym yes ∙ says-no); nowhere = λ no. e }
 
-  -- the second one does
-  pub second-ended : length b ≤ at → GapIs a b Nowhere
-  unfolding GapIs differFrom
-  second-ended h =
-      so-far .rest ∙ ap (differFrom number (linesOf (drop at a))) (no-parts 10 b at h) ∙ by (linesOf (drop at a))
-    where
-      by : (ls : List (List ℕ)) → differFrom number ls [] ≡ none
-      by [] = refl
-      by (l ∷ ls) = refl
+    -- the first tape ends
+    pub first-ended : length a ≤ at → GapIs a b g
+    unfolding differFrom
+    first-ended h =
+        is-nowhere
+        (so-far .rest ∙ ap (λ (ls : List (List ℕ)). differFrom number ls (linesOf (drop at b))) (no-parts 10 a at h))
+
+    -- the second one does
+    pub second-ended : length b ≤ at → GapIs a b g
+    unfolding differFrom
+    second-ended h =
+        is-nowhere
+        (so-far .rest ∙ ap (differFrom number (linesOf (drop at a))) (no-parts 10 b at h) ∙ by (linesOf (drop at a)))
+      where
+        by : (ls : List (List ℕ)) → differFrom number ls [] ≡ none
+        by [] = refl
+        by (l ∷ ls) = refl
 
   module _ (e f : ℕ) (ends-a : LineEnd a at e) (ends-b : LineEnd b at f) (in-a : at < length a) (in-b : at < length b)
       (r : Bool)
@@ -100,13 +107,16 @@ module _ (a b : List ℕ) (number at : ℕ) (so-far : Alike a b number at) where
         ∙ ap (λ (t : Bool). cond t (differFrom (suc number) (linesOf (drop (e + 1) a)) (linesOf (drop (f + 1) b)))
         (some (suc number))) (same-says _ _ r r says refl)
 
-    pub differ-here : not r ≡ true → GapIs a b (At (number + 1) at e f)
-    unfolding GapIs
-    differ-here q = (
-      both ∙ rw (not-true r q) (ap some (omega arith)),
-      stands a number at e (so-far .first) ends-a in-a,
-      stands b number at f (so-far .second) ends-b in-b,
-    )
+    pub differ-here : not r ≡ true
+        → GapIs a b (record { differ = true; number = number + 1; start = at; first = e; second = f })
+    differ-here q = record {
+      here = λ yes. record {
+        number = both ∙ rw (not-true r q) (ap some (omega arith));
+        first = stands a number at e (so-far .first) ends-a in-a;
+        second = stands b number at f (so-far .second) ends-b in-b;
+      };
+      nowhere = λ no. clash no;
+    }
 
     pub alike-more : not r ≡ false → Alike a b (number + 1) (e + 1)
     alike-more q = record {

@@ -8,8 +8,9 @@ use Rattle.tapes.proofs.comparing.compare.Tie as tie
 
 pub compare-spec : {M : Type 1} → statement M
 compare-spec =
-    tie.close (tie.spec (λ c. search too-long) (λ c κs. search needs) (λ c. search first-untaped) (λ c κs. search needs)
-    (λ c. search second-untaped) (λ c κs. search needs) (λ c. search needs) (λ c. search needs)
-    (λ c. search never-differ) (λ c. search first-order) (λ c. search (first-order, needs))
-    (λ c. search (first-inside, needs)) (λ c κs. search some-number) (λ c. search needs) (λ c. search first-order)
-    (λ c. search needs) (λ c. search second-order) (λ c. search culprit-first) (λ c. search culprit-second))
+    tie.close (tie.spec (λ c. search too-long) (λ c κs. search needs) (λ c κs. search needs) (λ c. search first-untaped)
+    (λ c κs. search needs) (λ c. search second-untaped) (λ c. search never-differ) (λ c. search first-order)
+    (λ c. search first-order)
+    (λ c. first-inside _ _ _ (c .before .before .before .before .before .before .first-difference .ensures)
+    (search needs)) (λ c κs. search some-number) (λ c. search needs) (λ c. search first-order) (λ c. search needs)
+    (λ c. search second-order) (λ c. search culprit-first) (λ c. search culprit-second))

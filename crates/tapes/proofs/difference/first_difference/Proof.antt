@@ -13,9 +13,10 @@ abbrev μ-loop : tie.MeasureT-loop
 
 pub first-difference-spec : {M : Type 1} → statement M
 first-difference-spec =
-    tie.close (tie.spec Inv-loop μ-loop (λ c. search alike-begun) (λ c. search second-ended) (λ c κs. search needs)
-    (λ c κs. search needs) (λ c. search needs)
+    tie.close (tie.spec Inv-loop μ-loop (λ c. search alike-begun) (λ c κs. search needs)
+    (λ c. second-ended _ _ _ _ (c .before .before .before .loop .inv) _ (search needs)
+    (omega (arith, c .before .if1 .taken))) (λ c κs. search needs) (λ c κs. search needs) (λ c. search needs)
     (λ c. record { fits = omega (arith, c .before .before .before .before .loop .inv .few) }) (λ c. search needs)
     (λ c. search needs) (λ c. search needs) (λ c. search needs) (λ c. search needs) (λ c. search needs)
     (λ c κs. search needs) (λ c. search differ-here) (λ c. search needs) (λ c. search alike-more)
-    (λ c. search first-ended))
+    (λ c κs. search needs) (λ c. search first-ended))
