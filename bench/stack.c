@@ -41,11 +41,18 @@ static const char *const names[] = {
     "lufanelis_play_line, 64 rounds",
     "lufanelis_play_line, 16 pairs",
     "lufanelis_play_line, 41 pairs",
+    "lufanelis_compare, steps in eight brackets",
+    "lufanelis_compare, 64 rounds",
+    "lufanelis_compare, show",
+    "lufanelis_culprit, show",
 };
 
 static uint8_t board[LUFANELIS_LARGEST_BOARD];
 static uint8_t line[LUFANELIS_LINE_LENGTH];
 static uint8_t stations[96];
+
+#define PROPOSALS "(propose (1 -1) (2 -2) (3 -3) (4 -4) (5 -5) (6 -6) (7 -7) (8 -8) (9 -9) (10 -10) (11 -11)" \
+                  " (12 -12) (13 -13) (14 -14) (15 -15) (16 -16))"
 
 /* A board of its own for rounds, since they need one on which nobody stands amid a collect. */
 static uint8_t other[LUFANELIS_LARGEST_BOARD];
@@ -53,16 +60,33 @@ static const uint8_t suspended[] = {255, 1, 255, 2, 255, 3, 255, 1, 255, 255, 2,
 #define FOUR_ROUNDS " (3) (1) () (2)"
 #define SIXTEEN_ROUNDS FOUR_ROUNDS FOUR_ROUNDS FOUR_ROUNDS FOUR_ROUNDS
 static const char rounds[] = "(rounds 1" SIXTEEN_ROUNDS SIXTEEN_ROUNDS SIXTEEN_ROUNDS SIXTEEN_ROUNDS ")";
+#define BOARD "(board 16 64)\n" PROPOSALS "\n"
+static const char all_rounds[] = BOARD "(rounds 1" SIXTEEN_ROUNDS SIXTEEN_ROUNDS SIXTEEN_ROUNDS SIXTEEN_ROUNDS ")";
 #define TEN_PAIRS " (0 0) (1 0) (2 0) (3 0) (4 0) (5 0) (6 0) (7 0) (8 0) (9 0)"
 static const char many_pairs[] = "(propose" TEN_PAIRS TEN_PAIRS TEN_PAIRS TEN_PAIRS " (0 0))";
-static const char pairs_line[] = "(propose (1 -1) (2 -2) (3 -3) (4 -4) (5 -5) (6 -6) (7 -7) (8 -8) (9 -9) (10 -10) (11 -11)"
-                                 " (12 -12) (13 -13) (14 -14) (15 -15) (16 -16))";
+static const char pairs_line[] = PROPOSALS;
 static uint64_t pairs[16];
+static uint64_t found[2];
 static volatile uint64_t sink;
 
 static uint64_t played(const char *text)
 {
     return lufanelis_play_line((const uint8_t *)text, strlen(text), sizeof board, board, sizeof board, line, sizeof line);
+}
+
+/* Two tapes that differ in their first line, which the sheet has or not: it is played to its end. */
+static uint64_t compared(const char *sheet)
+{
+    static const char one[] = "(16 decided 99 -2147483648 99)\n", other[] = "(16 spent 99 -2147483648 99)";
+    return lufanelis_compare((const uint8_t *)sheet, strlen(sheet), (const uint8_t *)one, sizeof one - 1,
+                             (const uint8_t *)other, sizeof other - 1, found, 2);
+}
+
+static uint64_t blamed(const char *sheet)
+{
+    static const char one[] = "(1 wrote)\n", other[] = "(1 read 1)\n";
+    return lufanelis_culprit((const uint8_t *)sheet, strlen(sheet), (const uint8_t *)one, sizeof one - 1,
+                             (const uint8_t *)other, sizeof other - 1, found, 2);
 }
 
 /* A higher station has a higher figure, all of eleven characters. */
@@ -109,6 +133,10 @@ static void calls(void)
     lufanelis_lay(board, sizeof board, 16, 64);
     MEASURE(played(pairs_line));
     MEASURE(played(many_pairs));
+    MEASURE(compared(BOARD "(steps (times 1 (times 1 (times 1 (times 1 (times 1 (times 1 (times 1 16))))))))"));
+    MEASURE(compared(all_rounds));
+    MEASURE(compared(BOARD "(show)"));
+    MEASURE(blamed(BOARD "(show)"));
 }
 
 static unsigned long long stack_pointer(pid_t child)

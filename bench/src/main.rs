@@ -4,6 +4,7 @@ mod direct;
 mod measure;
 mod report;
 mod sheets;
+mod tapes;
 mod work;
 
 use reference::compare::Compare;
@@ -28,6 +29,7 @@ fn main() {
         ["sheet", name] => print!("{}", sheets::made(name, None)),
         ["sheet", name, lines] => print!("{}", sheets::made(name, Some(lines.parse().expect("a number")))),
         ["play", path] => measure::play(path),
+        ["tapes", name] => tapes::compare(name),
         ["report", folder] => report::print(folder),
         _ => {
             eprintln!("see bench/run");

@@ -1,4 +1,4 @@
-//! The tables of `bench/run`, from what it wrote down: counts, times, sheets and stack, in fields with tabs between them.
+//! The tables of `bench/run`, from what it wrote down: counts, times, sheets, tapes and stack, in fields with tabs between them.
 
 use crate::measure::ENGINES;
 use crate::work::{contended, LONGEST_RUN, MOST_ROUNDS, SIZES};
@@ -198,6 +198,8 @@ pub fn print(folder: &str) {
     table("Nanoseconds on this machine, ours (over direct, over values):", &numbers(folder, "times"));
     let head = "| sheet | repeats | instructions of one | values' | the whole sheet | values' | time | values' |";
     plain("Sheets of 32,768 bytes, through the program:", head, folder, "sheets");
+    let head = "| sheet | lines of its tape | play | tape | compare: alike | compare: played to its end | the playing over play |";
+    plain("Instructions of the same sheets, played, taped and beside two tapes:", head, folder, "tapes");
     plain("Deepest stack:", "| call | bytes |", folder, "stack");
     plain("Memory:", "| of | text | data | bss |", folder, "sizes");
 }

@@ -1,5 +1,5 @@
--- What the program writes of an answer, and of a buffer: the parts that are lent have the length that is asked.
--- Relies on what a line holds; the proof of the program relies on it.
+-- What a program writes of an answer, and of a buffer: the parts that are lent have the length that is asked.
+-- Relies on what a line holds; the proofs of the programs rely on it.
 use mathlib.Core.Path.{_≡_, sym, ap}
 use mathlib.Core.List.{List}
 use Prim.Native.Nat.{ℕ, _-_, _≤_}

@@ -1,5 +1,5 @@
 // A whole input read into a lent buffer.
-// Relies on the C library's read; the program relies on it.
+// Relies on the C library's read; the programs rely on it.
 ghost use Prim.Native.Nat.{_≤_};
 ghost use lib.ListN.{length};
 

@@ -1,5 +1,5 @@
 -- The answer of a comparison as numbers in a lent list: the line number with the tape, and the place of a part.
--- Relies on the comparison of tapes; the contracts of the crate rely on it.
+-- Relies on the model's comparison; the contracts of the crate and of the calls for C rely on it.
 use mathlib.Core.Bool.{cond}
 use mathlib.Core.List.{List, _∷_}
 use Prim.Native.Nat.{ℕ}

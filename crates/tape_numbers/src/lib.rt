@@ -1,5 +1,5 @@
 // The answer of a comparison as numbers: one by value, and two put into a lent list.
-// Relies on the declared types; no crate relies on it.
+// Relies on the declared types; the calls for C rely on it.
 ghost use mathlib.Core.Path.{_≡_};
 ghost use Rattle.model.specs.Told.{tapTold, comparisonTold, startTold, lengthTold};
 ghost use Rattle.tape_numbers.specs.Numbers.{tapNumber, refusalNumber, culpritNumber, twoIn, foundIn, twoFit};

@@ -1,5 +1,5 @@
 -- The tape of a sheet in parts: what is written next from a line on, some lines of whose tape were written before.
--- Relies on the tape of a line; the contract of the next part relies on it, and proofs/Laws/Parts.antt proves
+-- Relies on the tape of a line; the contract of the next part relies on it, and proofs/Laws/Whole.antt proves
 -- `TapeWritten`.
 use mathlib.Core.Path.{_≡_}
 use mathlib.Core.Bool.{cond}
@@ -60,7 +60,7 @@ pub record PartIs (p : Part) (r : SheetPart) (o : List ℕ) : Type 0 where
   -- no line takes more steps, so that the parts of its tape come to an end
   pub few : r .done ≤ mostSteps
 
--- A program's loop: parts are written one after another, each from where the one before says to go on, up to the
+-- The program's loop: parts are written one after another, each from where the one before says to go on, up to the
 -- sheet's end. The fuel bounds the parts.
 unfoldable pub tapeAll : (fuel rooms : ℕ) (s : List ℕ) (at done laid : ℕ) (m : List ℕ) → List ℕ
 tapeAll zero rooms s at done laid m = []

@@ -1,5 +1,5 @@
 // The tape of a sheet in parts that fit a lent buffer, so that no tape is held in memory.
-// Relies on the tape of a line; no crate relies on it.
+// Relies on the tape of a line; the program that writes a tape relies on it.
 ghost use mathlib.Core.Path.{_≡_};
 ghost use Prim.Native.Nat.{_≤_, _<_, _/_};
 ghost use lib.ListN.{length};

@@ -1,6 +1,7 @@
 // Two tapes of one run compared: the first line number at which both have a line and these differ, and whose line is the
 // culprit's; by value, or as the part of the tape that the line is.
-// Relies on the difference of two tapes, on the test of their lines and on the algorithm's own line; no crate relies on it.
+// Relies on the difference of two tapes, on the test of their lines and on the algorithm's own line; the C interface and the
+// program that compares rely on it.
 ghost use Rattle.tapes.specs.Comparing.{Compares, PartIs, PartTaken, Fits};
 ghost use Rattle.model.specs.Tape as tape;
 ghost use Rattle.model.specs.Tape.{culpritPart};
