@@ -42,7 +42,7 @@ static const char *const names[] = {
     "lufanelis_play_line, 16 pairs",
     "lufanelis_play_line, 41 pairs",
     "lufanelis_compare, steps in eight brackets",
-    "lufanelis_compare, 64 rounds",
+    "lufanelis_compare, four rounds",
     "lufanelis_compare, show",
     "lufanelis_culprit, show",
 };
@@ -61,7 +61,6 @@ static const uint8_t suspended[] = {255, 1, 255, 2, 255, 3, 255, 1, 255, 255, 2,
 #define SIXTEEN_ROUNDS FOUR_ROUNDS FOUR_ROUNDS FOUR_ROUNDS FOUR_ROUNDS
 static const char rounds[] = "(rounds 1" SIXTEEN_ROUNDS SIXTEEN_ROUNDS SIXTEEN_ROUNDS SIXTEEN_ROUNDS ")";
 #define BOARD "(board 16 64)\n" PROPOSALS "\n"
-static const char all_rounds[] = BOARD "(rounds 1" SIXTEEN_ROUNDS SIXTEEN_ROUNDS SIXTEEN_ROUNDS SIXTEEN_ROUNDS ")";
 #define TEN_PAIRS " (0 0) (1 0) (2 0) (3 0) (4 0) (5 0) (6 0) (7 0) (8 0) (9 0)"
 static const char many_pairs[] = "(propose" TEN_PAIRS TEN_PAIRS TEN_PAIRS TEN_PAIRS " (0 0))";
 static const char pairs_line[] = PROPOSALS;
@@ -134,7 +133,7 @@ static void calls(void)
     MEASURE(played(pairs_line));
     MEASURE(played(many_pairs));
     MEASURE(compared(BOARD "(steps (times 1 (times 1 (times 1 (times 1 (times 1 (times 1 (times 1 16))))))))"));
-    MEASURE(compared(all_rounds));
+    MEASURE(compared(BOARD "(rounds 1" FOUR_ROUNDS ")"));
     MEASURE(compared(BOARD "(show)"));
     MEASURE(blamed(BOARD "(show)"));
 }
