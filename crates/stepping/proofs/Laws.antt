@@ -2,4 +2,5 @@
 pub mod Checking
 pub mod Running
 pub mod Joined
+pub mod Going
 pub mod Repeated

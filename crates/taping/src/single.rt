@@ -4,31 +4,13 @@ ghost use mathlib.Core.Path.{_≡_};
 ghost use Prim.Native.Nat.{_+_, _≤_};
 ghost use lib.ListN.{length, take, replicate};
 ghost use Rattle.model.specs.Bytes.{splice};
-ghost use Rattle.model.specs.Listing.{accepted};
-ghost use Rattle.model.specs.Told.{told};
 ghost use Rattle.taping.specs.Taping.{taping, tapedOne, tapedSteps, Ready};
 use crate::Taped;
-use model::StepAnswer;
 use shown::line::Line;
+use stepping::going::is_going;
 use stepping::repeated::step_counted;
 use stepping::sound_step::step_on;
 use tape_writer::entry_line;
-
-// Whether a step was taken.
-fn is_taken(answer: StepAnswer) -> bool
-    ensures { λ r. ⌜ r ≡ accepted (told answer .did) ⌝ }
-{
-    match answer {
-        StepAnswer::Wrote => true,
-        StepAnswer::Read { .. } => true,
-        StepAnswer::Went { .. } => true,
-        StepAnswer::Marked { .. } => true,
-        StepAnswer::Adopted { .. } => true,
-        StepAnswer::Decided { .. } => true,
-        StepAnswer::Spent { .. } => true,
-        StepAnswer::Refused { .. } => false,
-    }
-}
 
 // The bytes of a line put into the buffer from `at` on.
 fn put_in(out: &mut [u8], at: usize, line: Line)
@@ -40,7 +22,8 @@ fn put_in(out: &mut [u8], at: usize, line: Line)
     bytes::copy(&bytes[..len], &mut out[at..]);
 }
 
-// Where no more lines are wanted nothing is done. A line that is passed over is not built, and neither is the answer.
+// Where no more lines are wanted nothing is done. A line that is passed over is not built, and neither is the answer. A step
+// that would be refused is not asked for: its answer would be built only to be thrown away.
 pub fn tape_step(board: &mut [u8], station: u8, out: &mut [u8], taped: Taped) -> Taped
     requires { ⌜ Ready (taping (now board) (now out) taped) ⌝ }
     ensures { λ r. ⌜ taping (now (board .exit)) (now (out .exit)) r ≡ tapedOne station (taping (now (board .entry)) (now (out .entry)) taped) ⌝ }
@@ -56,26 +39,30 @@ pub fn tape_step(board: &mut [u8], station: u8, out: &mut [u8], taped: Taped) ->
             len: taped.len,
         };
     }
-    let answer = step_on(board, station);
-    if !is_taken(answer) {
-        return taped;
+    if is_going(board, station) {
+        let answer = step_on(board, station);
+        let line = entry_line(station, answer);
+        let at = taped.len;
+        put_in(out, at, line);
+        return Taped {
+            left: 0,
+            room: taped.room - 1,
+            len: at + line.len,
+        };
     }
-    let line = entry_line(station, answer);
-    let at = taped.len;
-    put_in(out, at, line);
-    Taped {
-        left: 0,
-        room: taped.room - 1,
-        len: at + line.len,
-    }
+    taped
 }
 
-// The steps of one station. One that changes neither what is to be passed over nor what is to be put in was refused, or no
-// line is wanted any more: so it is with the steps that are left, which are passed over.
+// The steps of one station. A station that is idle, decided or spent stays so, and all of its steps leave everything as it
+// is. A step that changes neither what is to be passed over nor what is to be put in was refused, or no line is wanted any
+// more: so it is with the steps that are left, which are passed over.
 pub fn tape_turn(board: &mut [u8], station: u8, steps: usize, out: &mut [u8], taped: Taped) -> Taped
     requires { ⌜ Ready (taping (now board) (now out) taped) ⌝ }
     ensures { λ r. ⌜ taping (now (board .exit)) (now (out .exit)) r ≡ tapedSteps (replicate steps station) (taping (now (board .entry)) (now (out .entry)) taped) ⌝ }
 {
+    if !is_going(board, station) {
+        return taped;
+    }
     let mut done = taped;
     let mut i: usize = 0;
     while i < steps {

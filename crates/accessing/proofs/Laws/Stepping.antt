@@ -1,6 +1,6 @@
 -- A step on a sound board: each refusal, and the accepted step.
 -- Relies on the place of a station and on the model's soundness; the proofs of `step_on` and
--- `step_going` and the laws of Repeated rely on it.
+-- `step_going` and the laws of Going and Repeated rely on it.
 use Rattle.model.proofs.Kit.{_≡_, refl, sym, ap, subst, _∙_, true, List, [], _∷_, none, some, ℕ, suc, _-_, _≤_, _<_, T}
 use Rattle.model.proofs.Kit.{getD, _+_, lit<, length, add-zero, w8, Fits, arith}
 use Rattle.model.specs.declared.Record.{Record}

@@ -1,23 +1,17 @@
 -- Steps on a sound board one after another: the board that they leave, and those of one station, whose place stays.
--- Relies on Stepping, on runs put together and on the model's refused steps; the proofs of `repeated` rely on it,
--- and so do those of rounds.
+-- Relies on Going, on runs put together and on the model's refused steps; the proofs of `repeated` rely on it, and so
+-- do those of rounds.
 use Rattle.model.proofs.Kit.{_≡_, refl, sym, ap, subst, _∙_, Bool, true, false, cond, not, List, [], _∷_, _++_, none, ℕ}
-use Rattle.model.proofs.Kit.{zero, suc, _+_, _-_, _≤_, _<_, T, lit<, length, replicate, getD, arith}
+use Rattle.model.proofs.Kit.{_+_, _-_, _≤_, _<_, T, lit<, length, replicate, getD, arith}
 use lib.ListN.{replicate-append-replicate}
 use Rattle.model.specs.declared.StepAnswer.{StepAnswer}
-use Rattle.model.specs.declared.StepAnswer.the-variants.{Refused}
-use Rattle.model.specs.Bytes.{part}
-use Rattle.model.specs.Figure.{Figure}
-use Rattle.model.specs.Listing.{accepted, outcome}
-use Rattle.model.specs.Filled.{Report}
-use Rattle.model.specs.Layout.{boardLength, recordAt, readRecord}
+use Rattle.model.specs.Listing.{accepted}
+use Rattle.model.specs.Layout.{boardLength, recordAt}
 use Rattle.model.specs.Calls.{boardRefusal, stepOn}
 use Rattle.model.specs.Runs.{taken, answers, after}
-use Rattle.model.specs.Told.{told}
 use Rattle.model.proofs.Basics.Tests.{T-false}
 use Rattle.model.proofs.Calls.Refused.{stepOn-refused, refused-again}
 use Rattle.model.proofs.Calls.Runs.{after-append, ran-both}
-use Rattle.codec.specs.Parts.{meeting}
 use Rattle.soundness.specs.declared.place.Place.{Place}
 use Rattle.soundness.specs.declared.place.Place.the-variants as places
 use Rattle.soundness.specs.Placed.{Placed}
@@ -25,7 +19,8 @@ use Rattle.soundness.proofs.Laws.Placing.{at-place}
 use Rattle.accessing.specs.Accessed.{Known, StepsOn}
 use Rattle.stepping.specs.Stepped.{TakesOn, RunsOn}
 use Rattle.stepping.proofs.Laws.Joined.{runs-one, runs-sound, runs-head, runs-length}
-use Rattle.accessing.proofs.Laws.Stepping as stepping
+use Rattle.stepping.proofs.Laws.Going.{nowhere-refused, idle-refused, done-refused, going-taken}
+use Rattle.accessing.proofs.Laws.Stepping.{known-at}
 
 -- the steps `is` were taken on the board b, and d is the board that they leave
 pub record Ran (b is d : List ℕ) : Type 0 where
@@ -55,9 +50,10 @@ ran-then b is d js e r q = record {
 pub ran-sound : (b is d : List ℕ) → Ran b is d → boardRefusal d none ≡ none
 ran-sound b is d r = r .sound
 
-not-accepted : (s : ℕ) (b : List ℕ) (k : ℕ) → StepsOn s b (Refused k) b → accepted (stepOn s b .answer .did) ≡ false
-unfolding StepsOn told accepted outcome
-not-accepted s b k one = ap (λ (z : Report Figure). accepted (z .did)) (sym (one .0))
+-- a refused step leaves the board
+refuses : (s : ℕ) (b : List ℕ) → false ≡ accepted (stepOn s b .answer .did) → TakesOn s b false b
+unfolding TakesOn
+refuses s b q = (q, sym (stepOn-refused s b (sym q)))
 
 -- ---- one step of the station with index j, whose record stands at `at`
 
@@ -66,27 +62,16 @@ module _ (n K j at : ℕ) (b : List ℕ) (k : Known n K j at b) where
   unfolding Placed
   here = k .on
 
-  refuses : (m : ℕ) → StepsOn (j + 1) b (Refused m) b → TakesOn (j + 1) b false b
-  unfolding StepsOn TakesOn
-  refuses m one = (sym (not-accepted (j + 1) b m one), one .1)
-
   pub idle-stays : getD b at 0 ≡ 0 → TakesOn (j + 1) b false b
-  idle-stays z = refuses 14 (stepping.fourteen (j + 1) b (places.At j at) j at refl here z)
+  idle-stays z = refuses (j + 1) b (idle-refused (j + 1) b (places.At j at) j at refl here z)
 
   pub done-stays : 6 < getD b at 0 → TakesOn (j + 1) b false b
-  done-stays l = by-phase (getD b at 0 - 7) (omega arith)
-    where
-      by-phase : (m : ℕ) → getD b at 0 ≡ m + 7 → TakesOn (j + 1) b false b
-      by-phase zero q = refuses 15 (stepping.fifteen (j + 1) b (places.At j at) j at refl here (omega arith))
-      by-phase (suc m) q =
-          refuses 16 (stepping.sixteen (j + 1) b (places.At j at) j at refl here (omega arith) (λ z. omega arith))
+  done-stays l = refuses (j + 1) b (done-refused (j + 1) b (places.At j at) j at refl here l)
 
   pub takes : (getD b at 0 ≡ 0 → ⊥) → getD b at 0 ≤ 6 → (a : StepAnswer) (d : List ℕ) → StepsOn (j + 1) b a d
       → TakesOn (j + 1) b true d
   unfolding StepsOn TakesOn
-  takes z l a d one =
-      let low : 1 ≤ getD b at 0 = omega arith in
-      (sym (stepping.is-taken n K j at b k (meeting 0 (readRecord (part at 24 b))) refl low l), one .1)
+  takes z l a d one = (going-taken (j + 1) b (places.At j at) j at refl here (k .sound) z l, one .1)
 
   -- steps leave the head and the length, and with them the place
   still-known : (is d : List ℕ) → Ran b is d → Known n K j at d
@@ -110,15 +95,12 @@ module _ (n K j at : ℕ) (b : List ℕ) (k : Known n K j at b) where
 -- ---- one step of the station with a number, counted
 
 pub nowhere-counts : (s : ℕ) (b : List ℕ) (p : Place) → p ≡ places.Nowhere → Placed s b p → RunsOn (s ∷ []) b 0 b
-unfolding StepsOn TakesOn
-nowhere-counts s b p e h =
-    let one = stepping.no-station s b p e h in
-    runs-one s b false b (sym (not-accepted s b 12 one), one .1)
+nowhere-counts s b p e h = runs-one s b false b (refuses s b (nowhere-refused s b p e h))
 
 module _ (s : ℕ) (b : List ℕ) (p : Place) (j at : ℕ) (is : p ≡ places.At j at) (h : Placed s b p)
     (sound : boardRefusal b none ≡ none) where
   place : Known (getD b 0 0) (getD b 1 0) j at b
-  place = stepping.known-at s b p j at is h sound
+  place = known-at s b p j at is h sound
 
   counts : (r : Bool) (d : List ℕ) → TakesOn (j + 1) b r d → RunsOn (s ∷ []) b (cond r 1 0) d
   counts r d one =
@@ -141,8 +123,7 @@ module _ (s : ℕ) (b : List ℕ) (p : Place) (j at : ℕ) (is : p ≡ places.At
 
 pub nowhere-stays : (s : ℕ) (b : List ℕ) (p : Place) → p ≡ places.Nowhere → Placed s b p
     → (count : ℕ) → b ≡ after stepOn b (replicate count s)
-nowhere-stays s b p e h count =
-    sym (refused-again s b (not-accepted s b 12 (stepping.no-station s b p e h)) count)
+nowhere-stays s b p e h count = sym (refused-again s b (sym (nowhere-refused s b p e h)) count)
 
 -- after the first i steps of station s, which has the index j, the board is d
 pub record Repeats (b : List ℕ) (s n K j at i : ℕ) (d : List ℕ) : Type 0 where
@@ -157,7 +138,7 @@ repeats-begun b s p j at e is h =
     record {
       number = omega (arith, o .low, o .index);
       ran = ran-none b e;
-      place = stepping.known-at s b p j at is h e;
+      place = known-at s b p j at is h e;
     }
 
 module _ (b : List ℕ) (s n K j at i : ℕ) (d : List ℕ) (t : Repeats b s n K j at i d) where

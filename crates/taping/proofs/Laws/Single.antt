@@ -1,9 +1,8 @@
 -- One step taped, as the code finds it at each return, and the line that it puts in.
--- Relies on what a step taped can leave and on the contracts of the steps and of the line; the proof of `tape_step`
--- relies on it.
-use Rattle.model.proofs.Kit.{_≡_, sym, ap, _∙_, Bool, true, false, not, cond, List, [], _∷_, _++_, ℕ, _+_}
-use Rattle.model.proofs.Kit.{_-_, _≤_, _<_, eq-eqb, ne-eqb, length, take, replicate, arith}
-use borrow.Author.Tests.{not-true, not-false}
+-- Relies on what a step taped can leave and on the contracts of the steps and of the line; the proof of `tape_step` and
+-- the laws of Turn rely on it.
+use Rattle.model.proofs.Kit.{_≡_, refl, sym, ap, _∙_, Bool, true, false, cond, List, [], _∷_, _++_, ℕ, _+_}
+use Rattle.model.proofs.Kit.{_-_, _≤_, _<_, eqb, eq-eqb, ne-eqb, length, take, replicate, arith}
 use lib.Seq.{take-append-seam}
 use Rattle.model.specs.declared.StepAnswer.{StepAnswer}
 use Rattle.model.specs.Bytes.{splice}
@@ -14,7 +13,7 @@ use Rattle.model.specs.Calls.{stepOn}
 use Rattle.model.specs.Runs.{taken, answers, after}
 use Rattle.model.specs.Tape.{Entry, entryText}
 use Rattle.model.specs.Told.{told}
-use Rattle.model.proofs.Basics.Tests.{by-test}
+use Rattle.model.proofs.Basics.Tests.{by-test, cond-case}
 use Rattle.model.proofs.Calls.Refused.{stepOn-refused}
 use Rattle.shown.specs.declared.line.Line.{Line}
 use Rattle.shown.specs.Puts.{Holds}
@@ -26,10 +25,6 @@ use Rattle.taping.specs.declared.Taped.{Taped}
 use Rattle.taping.specs.Taping.{Taping, taping, tapeLine, lineTaken, tapedOne}
 use Rattle.taping.proofs.Laws.Steps.{written, passedOver, entryAt}
 
--- whether a step was taken, by the case b of its answer a
-pub is-taken : (a b : StepAnswer) (t : Bool) → a ≡ b → t ≡ accepted (told b .did) → t ≡ accepted (told a .did)
-is-taken a b t e q = q ∙ ap (λ (x : StepAnswer). accepted (told x .did)) (sym e)
-
 -- ---- what one step leaves, by its tests
 
 module _ (i : ℕ) (s : Taping) where
@@ -37,19 +32,18 @@ module _ (i : ℕ) (s : Taping) where
   unfolding tapedOne
   one-none e = rw (eq-eqb (s .room) 0 e)
 
-  module _ (wanted : s .room ≡ 0 → ⊥) where
-    one-refused : accepted (stepOn i (s .board) .answer .did) ≡ false → tapedOne i s ≡ s
-    unfolding tapedOne
-    one-refused q = rw (ne-eqb (s .room) 0 wanted, q)
+  one-refused : accepted (stepOn i (s .board) .answer .did) ≡ false → tapedOne i s ≡ s
+  unfolding tapedOne
+  one-refused q = cond-case (λ t. t ≡ s) (eqb (s .room) 0) _ _ (λ e. refl) (λ e. rw q)
 
-    module _ (q : accepted (stepOn i (s .board) .answer .did) ≡ true) where
-      one-passed : (s .left ≡ 0 → ⊥) → tapedOne i s ≡ passedOver (stepOn i (s .board) .bytes) s
-      unfolding tapedOne lineTaken
-      one-passed l = rw (ne-eqb (s .room) 0 wanted, q, ne-eqb (s .left) 0 l)
+  module _ (wanted : s .room ≡ 0 → ⊥) (q : accepted (stepOn i (s .board) .answer .did) ≡ true) where
+    one-passed : (s .left ≡ 0 → ⊥) → tapedOne i s ≡ passedOver (stepOn i (s .board) .bytes) s
+    unfolding tapedOne lineTaken
+    one-passed l = rw (ne-eqb (s .room) 0 wanted, q, ne-eqb (s .left) 0 l)
 
-      one-written : s .left ≡ 0 → tapedOne i s ≡ written (entryAt i (s .board)) (stepOn i (s .board) .bytes) s
-      unfolding tapedOne lineTaken
-      one-written l = rw (ne-eqb (s .room) 0 wanted, q, eq-eqb (s .left) 0 l)
+    one-written : s .left ≡ 0 → tapedOne i s ≡ written (entryAt i (s .board)) (stepOn i (s .board) .bytes) s
+    unfolding tapedOne lineTaken
+    one-written l = rw (ne-eqb (s .room) 0 wanted, q, eq-eqb (s .left) 0 l)
 
 -- ---- the line that is put in
 
@@ -75,42 +69,35 @@ module _ (i : ℕ) (b out : List ℕ) (t : Taped) where
   pub none-wanted : t .room ≡ 0 → taping b out t ≡ tapedOne i (taping b out t)
   none-wanted e = sym (one-none i (taping b out t) e)
 
-  module _ (wanted : t .room ≡ 0 → ⊥) where
-    -- passed over, where r says whether the step was taken
-    pub passed-over : 0 < t .left → (r : ℕ) (d : List ℕ) → RunsOn (i ∷ []) b r d
-        → taping d out (record { left = t .left - r; room = t .room; len = t .len }) ≡ tapedOne i (taping b out t)
-    unfolding RunsOn taken answers after
-    passed-over l r d h =
-        by-test (accepted (stepOn i b .answer .did))
-        (λ y. let one : r ≡ 1 = omega (arith, h .0, ap {B = ℕ} (λ (x : Bool). cond x 1 0) y) in
-        (λ j. taping (h .2 j) out (record { left = t .left - one j; room = t .room; len = t .len }))
-        ∙ sym (one-passed i (taping b out t) wanted y (λ z. omega arith)))
-        (λ n. let left : t .left - r ≡ t .left = omega (arith, h .0, ap {B = ℕ} (λ (x : Bool). cond x 1 0) n) in
-        (λ j. taping ((h .2 ∙ stepOn-refused i b n) j) out (record { left = left j; room = t .room; len = t .len }))
-        ∙ sym (one-refused i (taping b out t) wanted n))
+  -- passed over, where r says whether the step was taken
+  pub passed-over : (t .room ≡ 0 → ⊥) → 0 < t .left → (r : ℕ) (d : List ℕ) → RunsOn (i ∷ []) b r d
+      → taping d out (record { left = t .left - r; room = t .room; len = t .len }) ≡ tapedOne i (taping b out t)
+  unfolding RunsOn taken answers after
+  passed-over wanted l r d h =
+      by-test (accepted (stepOn i b .answer .did))
+      (λ y. let one : r ≡ 1 = omega (arith, h .0, ap {B = ℕ} (λ (x : Bool). cond x 1 0) y) in
+      (λ j. taping (h .2 j) out (record { left = t .left - one j; room = t .room; len = t .len }))
+      ∙ sym (one-passed i (taping b out t) wanted y (λ z. omega arith)))
+      (λ n. let left : t .left - r ≡ t .left = omega (arith, h .0, ap {B = ℕ} (λ (x : Bool). cond x 1 0) n) in
+      (λ j. taping ((h .2 ∙ stepOn-refused i b n) j) out (record { left = left j; room = t .room; len = t .len }))
+      ∙ sym (one-refused i (taping b out t) n))
 
-    module _ (none-left : t .left ≤ 0) (a : StepAnswer) (d : List ℕ) (h : StepsOn i b a d) (q : Bool)
-        (told-by : q ≡ accepted (told a .did)) where
-      as-told : accepted (stepOn i b .answer .did) ≡ q
-      unfolding StepsOn
-      as-told = ap (λ (r : Report Figure). accepted (r .did)) (sym (h .0)) ∙ sym told-by
+  -- q says whether the station goes on
+  module _ (q : Bool) (going : q ≡ accepted (stepOn i b .answer .did)) where
+    pub step-refused : q ≡ false → taping b out t ≡ tapedOne i (taping b out t)
+    step-refused n = sym (one-refused i (taping b out t) (sym going ∙ n))
 
-      pub step-refused : not q ≡ true → taping d out t ≡ tapedOne i (taping b out t)
-      unfolding StepsOn
-      step-refused n =
-          let no = as-told ∙ not-true q n in
-          (λ j. taping ((h .1 ∙ stepOn-refused i b no) j) out t) ∙ sym (one-refused i (taping b out t) wanted no)
-
-      pub line-put : not q ≡ false → (line : Line)
-          → Holds line (entryText (record { station = i; report = told a }) ++ (10 ∷ []))
-          → (now : List ℕ) → now ≡ splice (t .len) (take (line .len) (line .bytes)) out
-          → taping d now (record { left = 0; room = t .room - 1; len = t .len + line .len })
-          ≡ tapedOne i (taping b out t)
-      unfolding StepsOn tapeLine
-      line-put n line holds now e =
-          let line-is : entryText (record { station = i; report = told a }) ++ (10 ∷ []) ≡ tapeLine (entryAt i b) =
-          ap (λ (r : Report Figure). entryText (record { station = i; report = r }) ++ (10 ∷ [])) (h .0) in
-          let put = e ∙ ap (λ (l : List ℕ). splice (t .len) l out) (held line _ holds ∙ line-is) in
-          let long = holds .len ∙ ap length line-is in
-          (λ j. taping (h .1 j) (put j) (record { left = 0; room = t .room - 1; len = t .len + long j }))
-          ∙ sym (one-written i (taping b out t) wanted (as-told ∙ not-false q n) (omega arith))
+    pub line-put : q ≡ true → (t .room ≡ 0 → ⊥) → t .left ≤ 0
+        → (a : StepAnswer) (d : List ℕ) → StepsOn i b a d → (line : Line)
+        → Holds line (entryText (record { station = i; report = told a }) ++ (10 ∷ []))
+        → (now : List ℕ) → now ≡ splice (t .len) (take (line .len) (line .bytes)) out
+        → taping d now (record { left = 0; room = t .room - 1; len = t .len + line .len })
+        ≡ tapedOne i (taping b out t)
+    unfolding StepsOn tapeLine
+    line-put y wanted none-left a d h line holds now e =
+        let line-is : entryText (record { station = i; report = told a }) ++ (10 ∷ []) ≡ tapeLine (entryAt i b) =
+        ap (λ (r : Report Figure). entryText (record { station = i; report = r }) ++ (10 ∷ [])) (h .0) in
+        let put = e ∙ ap (λ (l : List ℕ). splice (t .len) l out) (held line _ holds ∙ line-is) in
+        let long = holds .len ∙ ap length line-is in
+        (λ j. taping (h .1 j) (put j) (record { left = 0; room = t .room - 1; len = t .len + long j }))
+        ∙ sym (one-written i (taping b out t) wanted (sym going ∙ y) (omega arith))

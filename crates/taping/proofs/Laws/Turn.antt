@@ -1,11 +1,15 @@
 -- The steps of one station taped one after another, over lent bytes and the code's numbers.
--- Relies on steps taped one after another; the proof of `tape_turn` relies on it.
-use Rattle.model.proofs.Kit.{_≡_, refl, sym, ap, subst, _∙_, List, [], _∷_, ℕ, zero, suc, _+_, _-_, _≤_, _<_, length}
-use Rattle.model.proofs.Kit.{replicate, arith}
+-- Relies on one step taped and on steps taped one after another; the proof of `tape_turn` relies on it.
+use Rattle.model.proofs.Kit.{_≡_, refl, sym, ap, subst, _∙_, Bool, true, not, List, [], _∷_, ℕ, zero, suc, _+_, _-_}
+use Rattle.model.proofs.Kit.{_≤_, _<_, length, replicate, arith}
+use borrow.Author.Tests.{not-true}
 use lib.ListN.{replicate-append-replicate}
+use Rattle.model.specs.Listing.{accepted}
+use Rattle.model.specs.Calls.{stepOn}
 use Rattle.taping.specs.declared.Taped.{Taped}
 use Rattle.taping.specs.Taping.{Taping, taping, tapedOne, tapedSteps, Ready}
 use Rattle.taping.proofs.Laws.Steps.{Tapes, tapes-none, tapes-then, steps-append, unchanged}
+use Rattle.taping.proofs.Laws.Single.{step-refused}
 
 -- a step that leaves everything as it was does so again
 again-same : (i : ℕ) (s : Taping) → tapedOne i s ≡ s → (k : ℕ) → tapedSteps (replicate k i) s ≡ s
@@ -17,6 +21,12 @@ module _ (b₀ out₀ : List ℕ) (t₀ : Taped) (i : ℕ) where
   -- the state before the turn
   abbrev Begun : Taping
   Begun = taping b₀ out₀ t₀
+
+  -- a station that does not go on: each of its steps leaves everything as it is
+  pub turn-refused : (q : Bool) → q ≡ accepted (stepOn i b₀ .answer .did) → not q ≡ true
+      → (count : ℕ) → Begun ≡ tapedSteps (replicate count i) Begun
+  turn-refused q going n count =
+      sym (again-same i Begun (sym (step-refused i b₀ out₀ t₀ q going (not-true q n))) count)
 
   pub turn-begun : Ready Begun → Tapes Begun (replicate 0 i) Begun
   turn-begun h = tapes-none Begun h

@@ -2,8 +2,8 @@
 use Rattle.model.proofs.Kit.{_-_, _≤_, needs, replicate, arith}
 use Rattle.taping.specs.Taping.{taping}
 use Rattle.taping.proofs.Laws.Steps.{Tapes}
-use Rattle.taping.proofs.Laws.Turn.{turn-begun, turn-ready, turn-board, turn-out, turn-ended, turn-more}
-use Rattle.taping.proofs.Laws.Turn.{more-board, more-out, turn-over}
+use Rattle.taping.proofs.Laws.Turn.{turn-refused, turn-begun, turn-ready, turn-board, turn-out, turn-ended}
+use Rattle.taping.proofs.Laws.Turn.{turn-more, more-board, more-out, turn-over}
 use Rattle.taping.proofs.single.tape_turn.Statement.{statement}
 use Rattle.taping.proofs.single.tape_turn.Tie as tie
 
@@ -16,6 +16,7 @@ abbrev μ-loop : tie.MeasureT-loop
 
 pub tape-turn-spec : {M : Type 1} → statement M
 tape-turn-spec =
-    tie.close (tie.spec Inv-loop μ-loop (λ c. (omega arith, search turn-begun)) (λ c κs. search turn-ready)
-    (λ c. search more-board) (λ c. search more-out) (λ c. search turn-over) (λ c. search needs) (λ c. search needs)
-    (λ c. (omega arith, search turn-more)) (λ c. search turn-board) (λ c. search turn-out) (λ c. search turn-ended))
+    tie.close (tie.spec Inv-loop μ-loop (λ c κs. search needs) (λ c. search needs) (λ c. search turn-refused)
+    (λ c. (omega arith, search turn-begun)) (λ c κs. search turn-ready) (λ c. search more-board) (λ c. search more-out)
+    (λ c. search turn-over) (λ c. search needs) (λ c. search needs) (λ c. (omega arith, search turn-more))
+    (λ c. search turn-board) (λ c. search turn-out) (λ c. search turn-ended))
