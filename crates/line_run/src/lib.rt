@@ -1,7 +1,7 @@
 // The items of a `steps` line, run as they stand in the line: a list of items and an item call each other, as their readers
 // do, so that no buffer holds the steps and the stack is bounded by the depth of the brackets.
 // Relies on the step of a sound board and on the reader of a known number: the line was read before, so that nothing here can
-// miss. The player of a line relies on it.
+// miss. The player of a line and the tape of one rely on it.
 ghost use mathlib.Core.Path.{_≡_};
 ghost use mathlib.Core.Option.{none};
 ghost use Prim.Native.Nat.{_<_};
@@ -63,7 +63,7 @@ fn run_item(board: &mut [u8], line: &[u8], at: usize) -> PartRun
 }
 
 // The items from `at` on, up to the closing bracket.
-fn run_items(board: &mut [u8], line: &[u8], at: usize) -> PartRun
+pub fn run_items(board: &mut [u8], line: &[u8], at: usize) -> PartRun
     requires { ⌜ (boardRefusal (now board) none ≡ none) × ItemsRunnable (now line) at ⌝ }
     ensures { λ r. ⌜ ItemsRun (now (line .entry)) at (now (board .entry)) r (now (board .exit)) ⌝ }
 {

@@ -2,5 +2,6 @@
 pub mod Entries
 pub mod Lines
 pub mod OnBoard
+pub mod Passed
 pub mod Played
 pub mod Sheets

@@ -4,7 +4,7 @@
 use mathlib.Core.Path.{_≡_}
 use mathlib.Core.Bool.{cond}
 use mathlib.Core.List.{List, [], _∷_}
-use Prim.Native.Nat.{ℕ, _+_, _*_, _≤_}
+use Prim.Native.Nat.{ℕ, _+_, _*_, _≤_, _<_}
 use lib.Dec.{eqb}
 use lib.ListN.{length, take}
 use Rattle.model.specs.Forms.{readLine}
@@ -12,6 +12,7 @@ use Rattle.model.specs.Sheet.{playLine}
 use Rattle.model.specs.AnyList.{Call, after}
 use Rattle.model.specs.SheetList.{callsOf}
 use Rattle.model.specs.Tape.{Entry, tapeOf}
+use Rattle.line_run.specs.LineRuns.{LineCounts}
 use Rattle.taping.specs.declared.Taped.{Taped}
 use Rattle.taping.specs.Taping.{Taping, lineTaken, slot, taping}
 use Rattle.taped_line.specs.declared.TapedLine.{TapedLine}
@@ -41,6 +42,19 @@ pub record CallsTaped (cs : List Call) (b out : List ℕ) (t r : Taped) (d o : L
 -- those of a line, whatever form it was read as
 unfoldable pub LineCallsTaped : (line b out : List ℕ) (t r : Taped) (d o : List ℕ) → Type 0
 LineCallsTaped line b out t r d o = CallsTaped (callsOf b (readLine line)) b out t r d o
+
+-- and none of them is put in: any buffer stays as it is
+unfoldable pub LinePassed : (line b : List ℕ) (t r : Taped) (d : List ℕ) → Type 0
+LinePassed line b t r d = (out : List ℕ) → LineCallsTaped line b out t r d out
+
+-- A line that was read as `steps` with its items from `at` on, none of whose steps is wanted: they are few enough to
+-- run, and no more than there are lines to pass over before the next one that is wanted.
+pub record Passable (line : List ℕ) (at : ℕ) (t : Taped) : Type 0 where
+  pub count : ℕ
+  pub counts : LineCounts line at count
+  pub few : count ≤ 65536
+  pub below : count ≤ t .left
+  pub wanted : 0 < t .room
 
 -- what a line adds to the tape, where so many bytes of the memory are the board that was laid last
 unfoldable pub lineTape : (laid : ℕ) (m line : List ℕ) → List Entry

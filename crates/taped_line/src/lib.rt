@@ -1,12 +1,16 @@
 // One line of a sheet taped: the steps of a `steps` line and of a `rounds` line, and nothing for any other line, which is
 // played.
-// Relies on items and rounds taped and on the player of a line; the algorithm's own line and the tape of a sheet rely on it.
+// Relies on items run, on items and rounds taped and on the player of a line; the algorithm's own line and the tape of a sheet
+// rely on it.
 ghost use mathlib.Core.Path.{_≡_};
+ghost use mathlib.Core.Option.{none};
+ghost use Rattle.model.specs.Calls.{boardRefusal};
 ghost use Rattle.model.specs.Sheet.{playLine};
 ghost use Rattle.line_run.specs.LineRuns.{LineCounts};
 ghost use Rattle.line_rounds.specs.LineRounds.{LineHas};
-ghost use Rattle.taped_line.specs.TapedLines.{Room, LineCallsTaped, LineTaped};
+ghost use Rattle.taped_line.specs.TapedLines.{Room, Passable, LineCallsTaped, LinePassed, LineTaped};
 use lexer::known::known_number;
+use line_run::run_items;
 use model::Verdict;
 use player::line::least;
 use player::line::play_line;
@@ -22,6 +26,20 @@ use taping::Taped;
 pub struct TapedLine {
     pub laid: usize,
     pub taped: Taped,
+}
+
+// A line with no more steps than there are lines to pass over, on a sound board: none of its steps is wanted, so that it is
+// run, which takes less than half the time of taping it.
+fn pass_items(board: &mut [u8], line: &[u8], at: usize, taped: Taped) -> Taped
+    requires { ⌜ (boardRefusal (now board) none ≡ none) × Passable (now line) at taped ⌝ }
+    ensures { λ r. ⌜ LinePassed (now (line .entry)) (now (board .entry)) taped r (now (board .exit)) ⌝ }
+{
+    let run = run_items(board, line, at);
+    Taped {
+        left: taped.left - run.taken as usize,
+        room: taped.room,
+        len: taped.len,
+    }
 }
 
 // A line that was read as `steps` with its items from `at` on and that count, on a lent board. One that is refused adds nothing.
@@ -43,6 +61,12 @@ fn steps_on(
     match checked {
         Verdict::Refused { number: _ } => taped,
         Verdict::Accepted => {
+            let steps = count as usize;
+            if steps <= taped.left {
+                if 0 < taped.room {
+                    return pass_items(board, line, at, taped);
+                }
+            }
             let part = tape_items(board, line, at, out, taped);
             Taped {
                 left: part.left,

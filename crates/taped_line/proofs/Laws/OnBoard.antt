@@ -97,14 +97,20 @@ module _ (line : List ℕ) (at c : ℕ) (counts : LineCounts line at c) (b out :
         as-calls (map stepping (expand items)) t b out all-calls
         (idle-calls b out t _ (steps-untaped (expand items) b k turned) (steps-refused (expand items) b k turned))
 
+    -- its steps taped, whichever way
+    pub steps-done : boardRefusal b none ≡ none → (r : Taped) (d o : List ℕ)
+        → taping d o r ≡ tapedSteps (expand (its-items line at c counts .0)) (taping b out t)
+        → LineCallsTaped line b out t r d o
+    unfolding items
+    steps-done sound r d o e =
+        as-calls (map stepping (expand items)) r d o all-calls (steps-calls b out t sound (expand items) r d o e)
+
     pub steps-taped : boardRefusal b none ≡ none → (r : PartTaped) (d o : List ℕ)
         → ItemsTape line at (taping b out t) r d o
         → LineCallsTaped line b out t (record { left = r .left; room = r .room; len = r .len }) d o
-    unfolding PartDone TapedFrom
+    unfolding PartDone TapedFrom items
     steps-taped sound r d o done =
-        as-calls (map stepping (expand items)) _ d o all-calls
-        (steps-calls b out t sound (expand items) _ d o
-        (done _ items [] (items-there line at c counts items read) .ran))
+        steps-done sound _ d o (done _ items [] (items-there line at c counts items read) .ran)
 
 -- its single calls are all that it leaves
 pub counted-only : (line : List ℕ) (at c : ℕ) → LineCounts line at c → StepsOnly line

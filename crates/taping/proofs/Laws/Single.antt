@@ -1,8 +1,8 @@
 -- One step taped, as the code finds it at each return, and the line that it puts in.
 -- Relies on what a step taped can leave and on the contracts of the steps and of the line; the proof of `tape_step` and
 -- the laws of Turn rely on it.
-use Rattle.model.proofs.Kit.{_≡_, refl, sym, ap, _∙_, Bool, true, false, cond, List, [], _∷_, _++_, ℕ, _+_}
-use Rattle.model.proofs.Kit.{_-_, _≤_, _<_, eqb, eq-eqb, ne-eqb, length, take, replicate, arith}
+use Rattle.model.proofs.Kit.{_≡_, sym, ap, _∙_, Bool, true, false, List, [], _∷_, _++_, ℕ, _+_}
+use Rattle.model.proofs.Kit.{_-_, _≤_, _<_, eq-eqb, ne-eqb, length, take, replicate, arith}
 use lib.Seq.{take-append-seam}
 use Rattle.model.specs.declared.StepAnswer.{StepAnswer}
 use Rattle.model.specs.Bytes.{splice}
@@ -10,11 +10,8 @@ use Rattle.model.specs.Figure.{Figure}
 use Rattle.model.specs.Filled.{Report}
 use Rattle.model.specs.Listing.{accepted}
 use Rattle.model.specs.Calls.{stepOn}
-use Rattle.model.specs.Runs.{taken, answers, after}
 use Rattle.model.specs.Tape.{Entry, entryText}
 use Rattle.model.specs.Told.{told}
-use Rattle.model.proofs.Basics.Tests.{by-test, cond-case}
-use Rattle.model.proofs.Calls.Refused.{stepOn-refused}
 use Rattle.shown.specs.declared.line.Line.{Line}
 use Rattle.shown.specs.Puts.{Holds}
 use Rattle.shown.proofs.Rooms.{holds-room}
@@ -22,8 +19,9 @@ use Rattle.accessing.specs.Accessed.{StepsOn}
 use Rattle.stepping.specs.Stepped.{RunsOn}
 use Rattle.tape_writer.proofs.Laws.WritingLength.{line-short}
 use Rattle.taping.specs.declared.Taped.{Taped}
-use Rattle.taping.specs.Taping.{Taping, taping, tapeLine, lineTaken, tapedOne}
-use Rattle.taping.proofs.Laws.Steps.{written, passedOver, entryAt}
+use Rattle.taping.specs.Taping.{Taping, taping, tapeLine, lineTaken, tapedOne, tapedSteps}
+use Rattle.taping.proofs.Laws.Steps.{written, entryAt}
+use Rattle.taping.proofs.Laws.Passed.{one-refused, all-passed}
 
 -- ---- what one step leaves, by its tests
 
@@ -32,18 +30,10 @@ module _ (i : ℕ) (s : Taping) where
   unfolding tapedOne
   one-none e = rw (eq-eqb (s .room) 0 e)
 
-  one-refused : accepted (stepOn i (s .board) .answer .did) ≡ false → tapedOne i s ≡ s
-  unfolding tapedOne
-  one-refused q = cond-case (λ t. t ≡ s) (eqb (s .room) 0) _ _ (λ e. refl) (λ e. rw q)
-
-  module _ (wanted : s .room ≡ 0 → ⊥) (q : accepted (stepOn i (s .board) .answer .did) ≡ true) where
-    one-passed : (s .left ≡ 0 → ⊥) → tapedOne i s ≡ passedOver (stepOn i (s .board) .bytes) s
-    unfolding tapedOne lineTaken
-    one-passed l = rw (ne-eqb (s .room) 0 wanted, q, ne-eqb (s .left) 0 l)
-
-    one-written : s .left ≡ 0 → tapedOne i s ≡ written (entryAt i (s .board)) (stepOn i (s .board) .bytes) s
-    unfolding tapedOne lineTaken
-    one-written l = rw (ne-eqb (s .room) 0 wanted, q, eq-eqb (s .left) 0 l)
+  one-written : (s .room ≡ 0 → ⊥) → accepted (stepOn i (s .board) .answer .did) ≡ true → s .left ≡ 0
+      → tapedOne i s ≡ written (entryAt i (s .board)) (stepOn i (s .board) .bytes) s
+  unfolding tapedOne lineTaken
+  one-written wanted q l = rw (ne-eqb (s .room) 0 wanted, q, eq-eqb (s .left) 0 l)
 
 -- ---- the line that is put in
 
@@ -72,15 +62,8 @@ module _ (i : ℕ) (b out : List ℕ) (t : Taped) where
   -- passed over, where r says whether the step was taken
   pub passed-over : (t .room ≡ 0 → ⊥) → 0 < t .left → (r : ℕ) (d : List ℕ) → RunsOn (i ∷ []) b r d
       → taping d out (record { left = t .left - r; room = t .room; len = t .len }) ≡ tapedOne i (taping b out t)
-  unfolding RunsOn taken answers after
-  passed-over wanted l r d h =
-      by-test (accepted (stepOn i b .answer .did))
-      (λ y. let one : r ≡ 1 = omega (arith, h .0, ap {B = ℕ} (λ (x : Bool). cond x 1 0) y) in
-      (λ j. taping (h .2 j) out (record { left = t .left - one j; room = t .room; len = t .len }))
-      ∙ sym (one-passed i (taping b out t) wanted y (λ z. omega arith)))
-      (λ n. let left : t .left - r ≡ t .left = omega (arith, h .0, ap {B = ℕ} (λ (x : Bool). cond x 1 0) n) in
-      (λ j. taping ((h .2 ∙ stepOn-refused i b n) j) out (record { left = left j; room = t .room; len = t .len }))
-      ∙ sym (one-refused i (taping b out t) n))
+  unfolding tapedSteps
+  passed-over wanted l = all-passed (i ∷ []) b out t wanted l
 
   -- q says whether the station goes on
   module _ (q : Bool) (going : q ≡ accepted (stepOn i b .answer .did)) where
