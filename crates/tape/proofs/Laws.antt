@@ -11,14 +11,17 @@ use Rattle.taped_sheet.proofs.Laws.Whole as whole
 pub rooms : (out : List ℕ) → length out ≡ 57344 → 1 ≤ length out / 56
 rooms out h = omega arith
 
-pub written : (p : Part) (r : SheetPart) (o : List ℕ) → PartIs p r o → r .len ≤ length o
-written p r o h = omega (arith, ap length (h .text), h .len, length-take (r .len) o)
+pub written : (p : Part) (r : SheetPart) (d o : List ℕ) → PartIs p r d o → r .len ≤ length o
+written p r d o h = omega (arith, ap length (h .text), h .len, length-take (r .len) o)
+
+pub still-few : (p : Part) (r : SheetPart) (d o : List ℕ) → PartIs p r d o → r .done ≤ mostSteps
+still-few p r d o h = h .few
 
 pub part-there : (sheet : List ℕ) (len at : ℕ) → len ≤ length sheet → at < len → at < length (take len sheet)
 part-there sheet len at h l = omega (arith, length-take-le len sheet h)
 
-module _ (sheet : List ℕ) (len at done laid : ℕ) (m out : List ℕ) (r : SheetPart) (o : List ℕ)
-    (is : PartIs (partAt (length out / 56) (take len sheet) at done laid m) r o) (inside : len ≤ length sheet)
+module _ (sheet : List ℕ) (len at done laid : ℕ) (m out : List ℕ) (r : SheetPart) (d o : List ℕ)
+    (is : PartIs (partAt (length out / 56) (take len sheet) at done laid m) r d o) (inside : len ≤ length sheet)
     (more : at < len) (size : length out ≡ 57344) (few : done ≤ mostSteps) where
   long : length (take len sheet) ≡ len
   long = length-take-le len sheet inside

@@ -22,12 +22,21 @@ fn main() {
         io::write_all(STDOUT_FILENO, &bytes[..count]);
         return;
     }
+    let mut kept = [0u8; 16904];
     let mut out = [0u8; 57344];
     let mut at = 0;
     let mut done = 0;
     let mut laid = 0;
     while at < len {
-        let part = next_part(&sheet[..len], at, done, laid, memory, &mut out);
+        let part = next_part(
+            &sheet[..len],
+            at,
+            done,
+            laid,
+            &mut memory,
+            &mut kept,
+            &mut out,
+        );
         let count = part.len;
         if !io::write_all(STDOUT_FILENO, &out[..count]) {
             return;
@@ -35,6 +44,5 @@ fn main() {
         at = part.next;
         done = part.done;
         laid = part.laid;
-        memory = part.memory;
     }
 }

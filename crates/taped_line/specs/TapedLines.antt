@@ -7,12 +7,14 @@ use mathlib.Core.List.{List, [], _∷_}
 use Prim.Native.Nat.{ℕ, _+_, _*_, _≤_, _<_}
 use lib.Dec.{eqb}
 use lib.ListN.{length, take}
-use Rattle.model.specs.Forms.{readLine}
+use Rattle.model.specs.Forms.{wordPlace, readLine}
 use Rattle.model.specs.Sheet.{playLine}
 use Rattle.model.specs.AnyList.{Call, after}
 use Rattle.model.specs.SheetList.{callsOf}
 use Rattle.model.specs.Tape.{Entry, tapeOf}
 use Rattle.line_run.specs.LineRuns.{LineCounts}
+use Rattle.sheet.specs.declared.form.LineForm.{LineForm}
+use Rattle.sheet.specs.LineForms.{lineForm}
 use Rattle.taping.specs.declared.Taped.{Taped}
 use Rattle.taping.specs.Taping.{Taping, lineTaken, slot, taping}
 use Rattle.taped_line.specs.declared.TapedLine.{TapedLine}
@@ -32,6 +34,10 @@ window out t = taping [] out t
 -- what is asked: room in the buffer for all the lines that are wanted
 unfoldable pub Room : (out : List ℕ) → Taped → Type 0
 Room out t = t .len + slot * t .room ≤ length out
+
+-- f is the form that the code reads the line as
+abbrev pub IsRead : LineForm → (line : List ℕ) → Type 0
+IsRead f line = f ≡ lineForm (wordPlace line) (readLine line)
 
 -- Single calls on the board b were taped: their entries, and the board that they leave, as long as more lines are
 -- wanted.

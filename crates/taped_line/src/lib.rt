@@ -8,7 +8,7 @@ ghost use Rattle.model.specs.Calls.{boardRefusal};
 ghost use Rattle.model.specs.Sheet.{playLine};
 ghost use Rattle.line_run.specs.LineRuns.{LineCounts};
 ghost use Rattle.line_rounds.specs.LineRounds.{LineHas};
-ghost use Rattle.taped_line.specs.TapedLines.{Room, Passable, LineCallsTaped, LinePassed, LineTaped};
+ghost use Rattle.taped_line.specs.TapedLines.{Room, IsRead, Passable, LineCallsTaped, LinePassed, LineTaped};
 use lexer::known::known_number;
 use line_run::run_items;
 use model::Verdict;
@@ -147,18 +147,18 @@ fn play_on(memory: &mut [u8], laid: usize, line: &[u8], taped: Taped) -> TapedLi
     }
 }
 
-// A line of any content and length, without its LF, on a memory of any content and length.
-pub fn tape_line(
+// A line as the form that it was read as, on a memory of any content and length.
+pub fn tape_read(
     line: &[u8],
+    form: LineForm,
     laid: usize,
     memory: &mut [u8],
     out: &mut [u8],
     taped: Taped,
 ) -> TapedLine
-    requires { ⌜ Room (now out) taped ⌝ }
+    requires { ⌜ IsRead form (now line) × Room (now out) taped ⌝ }
     ensures { λ r. ⌜ LineTaped (now (line .entry)) laid (now (memory .entry)) (now (out .entry)) taped r (now (memory .exit)) (now (out .exit)) ⌝ }
 {
-    let form = read_line(line);
     match form {
         LineForm::Steps { at, count } => tape_steps(memory, laid, line, at, count, out, taped),
         LineForm::Rounds { at, rounds, needs } => {
@@ -173,4 +173,19 @@ pub fn tape_line(
         LineForm::Show => play_on(memory, laid, line, taped),
         LineForm::Refused { number: _ } => play_on(memory, laid, line, taped),
     }
+}
+
+// A line of any content and length, without its LF.
+pub fn tape_line(
+    line: &[u8],
+    laid: usize,
+    memory: &mut [u8],
+    out: &mut [u8],
+    taped: Taped,
+) -> TapedLine
+    requires { ⌜ Room (now out) taped ⌝ }
+    ensures { λ r. ⌜ LineTaped (now (line .entry)) laid (now (memory .entry)) (now (out .entry)) taped r (now (memory .exit)) (now (out .exit)) ⌝ }
+{
+    let form = read_line(line);
+    tape_read(line, form, laid, memory, out, taped)
 }

@@ -2,7 +2,7 @@
 -- Relies on the tape of a line; the contract of the next part relies on it, and proofs/Laws/Whole.antt proves
 -- `TapeWritten`.
 use mathlib.Core.Path.{_≡_}
-use mathlib.Core.Bool.{cond}
+use mathlib.Core.Bool.{Bool, false, cond}
 use mathlib.Core.List.{List, [], _∷_, _++_, map}
 use Prim.Native.Nat.{ℕ, zero, suc, _+_, _≤_, _<_}
 use lib.Dec.{ltb}
@@ -10,7 +10,10 @@ use lib.ListN.{length, take, drop, replicate}
 use Rattle.model.specs.Layout.{boardLength}
 use Rattle.model.specs.Sheet.{playLine, linesOf}
 use Rattle.model.specs.Tape.{Entry, entryText, sheetTape, tapeText}
-use Rattle.taped_line.specs.TapedLines.{lineTape}
+use Rattle.sheet.specs.declared.form.LineForm.{LineForm}
+use Rattle.taping.specs.declared.Taped.{Taped}
+use Rattle.taped_line.specs.declared.TapedLine.{TapedLine}
+use Rattle.taped_line.specs.TapedLines.{IsRead, lineTape, LineTaped}
 use Rattle.taped_sheet.specs.declared.SheetPart.{SheetPart}
 
 -- the lines of entries, each with its LF
@@ -49,14 +52,29 @@ module _ (rooms : ℕ) (s : List ℕ) (at done laid : ℕ) (m : List ℕ) where
 unfoldable pub mostSteps : ℕ
 mostSteps = 69632
 
--- the part is put at the front of the buffer o
-pub record PartIs (p : Part) (r : SheetPart) (o : List ℕ) : Type 0 where
+-- The test t of a form: where it fails, the tape of a line that is read so has fewer lines than there is room for.
+unfoldable pub MayFill : (rooms : ℕ) → LineForm → (t : Bool) → Type 0
+MayFill rooms f t =
+    t ≡ false → (line : List ℕ) (laid : ℕ) (m : List ℕ) → IsRead f line → length (lineTape laid m line) < rooms
+
+-- the memory m stands in k, if the tape of a line that is read so fills the room that there is
+unfoldable pub Kept : (rooms : ℕ) → LineForm → (m k : List ℕ) → Type 0
+Kept rooms f m k = (line : List ℕ) (laid : ℕ) → IsRead f line → rooms ≤ length (lineTape laid m line) → k ≡ m
+
+-- a line was taped, and left the memory as it was where its tape filled the buffer
+pub record LineTried (line : List ℕ) (laid : ℕ) (m out : List ℕ) (t : Taped) (r : TapedLine) (d o : List ℕ)
+    : Type 0 where
+  pub taped : LineTaped line laid m out t r d o
+  pub back : r .taped .room ≡ 0 → d ≡ m
+
+-- the part is put at the front of the buffer o, and leaves the memory d
+pub record PartIs (p : Part) (r : SheetPart) (d o : List ℕ) : Type 0 where
   pub text : take (r .len) o ≡ p .text
   pub len : r .len ≡ length (p .text)
   pub next : r .next ≡ p .next
   pub done : r .done ≡ p .done
   pub laid : r .laid ≡ p .laid
-  pub memory : r .memory ≡ p .memory
+  pub memory : d ≡ p .memory
   -- no line takes more steps, so that the parts of its tape come to an end
   pub few : r .done ≤ mostSteps
 

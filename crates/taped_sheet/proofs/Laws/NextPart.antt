@@ -10,7 +10,7 @@ use Rattle.lines.specs.Ends.{LineEnd}
 use Rattle.taping.specs.Taping.{slot}
 use Rattle.taped_line.specs.declared.TapedLine.{TapedLine}
 use Rattle.taped_line.specs.TapedLines.{window, Room, lineTape, LineTaped}
-use Rattle.taped_sheet.specs.SheetParts.{textOf, Part, lineParts, partAt, mostSteps, PartIs}
+use Rattle.taped_sheet.specs.SheetParts.{textOf, Part, lineParts, partAt, mostSteps, LineTried, PartIs}
 use Rattle.taped_sheet.proofs.Laws.Windows.{Put, put}
 use Rattle.taped_sheet.proofs.Laws.Few.{line-few}
 
@@ -66,10 +66,13 @@ some-rooms out h = omega arith
 
 module _ (s : List ℕ) (at done laid : ℕ) (m out : List ℕ) (rooms end : ℕ) (ends : LineEnd s at end)
     (inside : at < length s) (r : TapedLine) (d o : List ℕ)
-    (taped : LineTaped (take (end - at) (drop at s)) laid m out (record { left = done; room = rooms; len = 0 }) r d o)
+    (tried : LineTried (take (end - at) (drop at s)) laid m out (record { left = done; room = rooms; len = 0 }) r d o)
     (some-room : 1 ≤ rooms) where
   abbrev line : List ℕ
   line = take (end - at) (drop at s)
+
+  abbrev taped : LineTaped line laid m out (record { left = done; room = rooms; len = 0 }) r d o
+  taped = tried .taped
 
   long : length line ≡ end - at
   long = length-take-le (end - at) (drop at s) (omega (arith, length-drop at s, ends .behind, ends .inside))
@@ -92,15 +95,9 @@ module _ (s : List ℕ) (at done laid : ℕ) (m out : List ℕ) (rooms end : ℕ
 
   pub part-full : r .taped .room ≡ 0
       → PartIs (partAt rooms s at done laid m)
-      (record { len = r .taped .len; next = at; done = done + rooms; laid = laid; memory = m }) o
+      (record { len = r .taped .len; next = at; done = done + rooms; laid = laid }) d o
   part-full full =
-      subst (λ (p : Part). PartIs p (record {
-        len = r .taped .len;
-        next = at;
-        done = done + rooms;
-        laid = laid;
-        memory = m;
-      }) o)
+      subst (λ (p : Part). PartIs p (record { len = r .taped .len; next = at; done = done + rooms; laid = laid }) d o)
       (sym (here ∙ is))
       (record {
         text = left-text;
@@ -108,7 +105,7 @@ module _ (s : List ℕ) (at done laid : ℕ) (m out : List ℕ) (rooms end : ℕ
         next = refl;
         done = refl;
         laid = refl;
-        memory = refl;
+        memory = tried .back full;
         few = done-few line done laid m out rooms r d o taped some-room full;
       })
     where
@@ -118,15 +115,9 @@ module _ (s : List ℕ) (at done laid : ℕ) (m out : List ℕ) (rooms end : ℕ
 
   pub part-whole : (r .taped .room ≡ 0 → ⊥)
       → PartIs (partAt rooms s at done laid m)
-      (record { len = r .taped .len; next = end + 1; done = 0; laid = r .laid; memory = d }) o
+      (record { len = r .taped .len; next = end + 1; done = 0; laid = r .laid }) d o
   part-whole wanted =
-      subst (λ (p : Part). PartIs p (record {
-        len = r .taped .len;
-        next = end + 1;
-        done = 0;
-        laid = r .laid;
-        memory = d;
-      }) o)
+      subst (λ (p : Part). PartIs p (record { len = r .taped .len; next = end + 1; done = 0; laid = r .laid }) d o)
       (sym (here ∙ is))
       (record {
         text = left-text ∙ ap textOf all;

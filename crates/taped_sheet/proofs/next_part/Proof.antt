@@ -8,9 +8,10 @@ use Rattle.taped_sheet.proofs.next_part.Tie as tie
 pub next-part-spec : {M : Type 1} → statement M
 next-part-spec =
     tie.close (tie.spec (λ c κs. search needs) (λ c. search needs) (λ c. search needs) (λ c. search needs)
-    (λ c. search needs) (λ c κs. search rooms-fit)
+    (λ c κs. (search rooms-fit, omega arith, search needs))
     (λ c.
-    let taped = c .before .before .before .before .before .tape-line .ensures in
-    done-fits _ _ _ _ _ _ _ _ _ taped (omega arith) (c .if1 .taken))
-    (λ c. search needs) (λ c. search (some-rooms, part-full))
-    (λ c. search needs) (λ c. search needs) (λ c. search (some-rooms, part-whole)))
+    let tried = c .before .before .before .before .before .before .before .before .try-line .ensures in
+    omega (arith, done-fits _ _ _ _ _ _ _ _ _ (tried .taped) (omega arith) (c .if1 .taken)))
+    (λ c. search needs) (λ c. search needs) (λ c. search needs) (λ c. search (some-rooms, part-full))
+    (λ c. search needs) (λ c. search needs) (λ c. search needs) (λ c. search needs)
+    (λ c. search (some-rooms, part-whole)))
