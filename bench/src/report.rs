@@ -179,7 +179,7 @@ fn pair_lines(all: &Numbers) {
 fn plain(title: &str, head: &str, folder: &str, name: &str) {
     println!("\n{title}\n\n{head}\n|{}", "---|".repeat(head.matches('|').count() - 1));
     for row in rows(folder, name) {
-        let fields = row.iter().map(|f| f.parse::<f64>().map_or_else(|_| f.clone(), told));
+        let fields = row.iter().map(|f| f.parse::<u64>().map_or_else(|_| f.clone(), |whole| told(whole as f64)));
         println!("|{}", fields.map(|f| format!(" {f} |")).collect::<String>());
     }
 }
