@@ -6,5 +6,5 @@ use Rattle.compare.proofs.print_refusal.Tie as tie
 
 pub print-refusal-spec : {M : Type 1} → statement M
 print-refusal-spec =
-    tie.close (tie.spec (λ c κs. search needs) (λ c. search inside) (λ c. search (counted, inside)) (λ c κs. search needs)
-    (λ c. search needs) (λ c κs. search needs) (λ c. search needs))
+    tie.close (tie.spec (λ c κs. search needs) (λ c. search inside) (λ c. search (counted, inside))
+    (λ c κs. search needs) (λ c. search needs) (λ c κs. search needs) (λ c. search needs))

@@ -6,4 +6,5 @@ use Rattle.capi.proofs.compared.lufanelis_compare.Tie as tie
 
 pub lufanelis-compare-spec : {M : Type 1} → statement M
 lufanelis-compare-spec =
-    tie.close (tie.spec (λ c κs. search needs) (λ c κs. search needs) (λ c. search needs) (λ c. search (compared-refusal, compared-found)))
+    tie.close (tie.spec (λ c κs. search needs) (λ c κs. search needs) (λ c. search needs)
+    (λ c. search (compared-refusal, compared-found)))

@@ -6,4 +6,5 @@ use Rattle.capi.proofs.compared.lufanelis_culprit.Tie as tie
 
 pub lufanelis-culprit-spec : {M : Type 1} → statement M
 lufanelis-culprit-spec =
-    tie.close (tie.spec (λ c κs. search needs) (λ c κs. search needs) (λ c. search needs) (λ c. search (compared-culprit, compared-part)))
+    tie.close (tie.spec (λ c κs. search needs) (λ c κs. search needs) (λ c. search needs)
+    (λ c. search (compared-culprit, compared-part)))
