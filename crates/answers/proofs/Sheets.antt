@@ -10,11 +10,11 @@ use Rattle.model.specs.Layout.{boardLength}
 use Rattle.model.specs.Sheet as model
 use Rattle.model.specs.Sheet.{refusedText, linesOf, printed, playLine, playSheet}
 use Rattle.model.proofs.Basics.Ended.{front, parts-at, no-parts, mark-found, part-taken}
-use Rattle.shown.specs.declared.line.Line.{Line}
-use Rattle.shown.specs.Puts.{Holds, Puts, Room}
-use Rattle.shown.proofs.Putting.{puts-holds}
-use Rattle.shown.proofs.Rooms.{holds-room}
-use Rattle.shown.proofs.Bounds.{refused-short}
+use Rattle.line_writer.specs.declared.line.Line.{Line}
+use Rattle.line_writer.specs.Puts.{Holds, Puts, Room}
+use Rattle.line_writer.proofs.Putting.{puts-holds}
+use Rattle.line_writer.proofs.Rooms.{holds-room}
+use Rattle.answer_writer.proofs.Bounds.{refused-short}
 use Rattle.player.specs.declared.line.Played.{Played}
 use Rattle.player.specs.Played.{Plays}
 use Rattle.answers.specs.Answered.{lineIn, Answered, ended, refusedWhole, lineAnswered, answerAt, Answers}

@@ -10,7 +10,7 @@ use lib.ListN.{length, drop, replicate}
 use Rattle.model.specs.Layout.{boardLength}
 use Rattle.model.specs.Sheet as model
 use Rattle.model.specs.Sheet.{refusedText}
-use Rattle.shown.specs.Puts.{Holds}
+use Rattle.line_writer.specs.Puts.{Holds}
 use Rattle.answers.specs.declared.SheetAnswer.{SheetAnswer}
 
 -- the line in front, without the LF that ends it

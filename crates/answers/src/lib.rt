@@ -1,12 +1,12 @@
 // A sheet line by line: refusal 1, where each line ends, and what it prints with its LF.
 // Relies on the player of one line; the program relies on it.
 ghost use Rattle.answers.specs.Answered.{Answers, answerAt};
+use answer_writer::refused_line;
 use bytes::scan::find;
+use line_writer::line::Line;
+use line_writer::line::empty;
+use line_writer::line::put_byte;
 use player::line::play_line;
-use shown::answer::refused_line;
-use shown::line::Line;
-use shown::line::empty;
-use shown::line::put_byte;
 
 // What is printed next, the board in force afterwards, and the place of the sheet to go on from.
 pub struct SheetAnswer {

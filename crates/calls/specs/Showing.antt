@@ -4,8 +4,8 @@ use mathlib.Core.List.{List, _++_}
 use Prim.Native.Nat.{ℕ}
 use Rattle.model.specs.Calls.{stations, islands}
 use Rattle.model.specs.Show.{text, statuses}
-use Rattle.shown.specs.declared.line.Line.{Line}
-use Rattle.shown.specs.Puts.{Holds}
+use Rattle.line_writer.specs.declared.line.Line.{Line}
+use Rattle.line_writer.specs.Puts.{Holds}
 
 -- the opening word and the first k stations
 unfoldable pub openTo : (k : ℕ) → List ℕ → List ℕ

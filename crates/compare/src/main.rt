@@ -3,13 +3,13 @@
 // Relies on the comparison for everything but reading and writing.
 ghost use Prim.Native.Nat.{_≤_};
 ghost use lib.ListN.{length};
+use answer_writer::refused_line;
 use input::Input;
 use input::read_all;
 use libc::STDERR_FILENO;
 use libc::STDOUT_FILENO;
 use model::Comparison;
 use model::Tap;
-use shown::answer::refused_line;
 use tapes::comparing::compare;
 use tapes::comparing::part_of;
 

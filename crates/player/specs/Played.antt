@@ -8,7 +8,7 @@ use lib.ListN.{length}
 use Rattle.model.specs.Proposals.{Proposal}
 use Rattle.model.specs.Forms.{Items, steps, rounds, proposals, reads, readLine}
 use Rattle.model.specs.Sheet as model
-use Rattle.shown.specs.Puts.{Holds}
+use Rattle.line_writer.specs.Puts.{Holds}
 use Rattle.player.specs.declared.line.Played.{Played}
 
 pub record Plays (p : model.Played) (r : Played) (d : List ℕ) : Type 0 where

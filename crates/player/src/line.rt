@@ -9,6 +9,12 @@ ghost use Rattle.line_run.specs.LineRuns.{LineCounts};
 ghost use Rattle.line_rounds.specs.LineRounds.{LineHas};
 ghost use Rattle.line_proposals.specs.LinePairs as linePairs;
 ghost use Rattle.player.specs.Played.{Plays, TurnsDown, PlaysSteps, PlaysRounds, PlaysProposals};
+use answer_writer::laid_line;
+use answer_writer::played_line;
+use answer_writer::proposed_line;
+use answer_writer::ran_line;
+use answer_writer::refused_line;
+use answer_writer::together_line;
 use calls::lay;
 use calls::propose;
 use calls::show;
@@ -16,18 +22,12 @@ use codec::places::board_length;
 use line_proposals::propose_line;
 use line_rounds::play_rounds_line;
 use line_run::run_line;
+use line_writer::line::Line;
 use model::RoundsVerdict;
 use model::RunVerdict;
 use model::Verdict;
 use sheet::form::LineForm;
 use sheet::form::read_line;
-use shown::answer::laid_line;
-use shown::answer::played_line;
-use shown::answer::proposed_line;
-use shown::answer::ran_line;
-use shown::answer::refused_line;
-use shown::answer::together_line;
-use shown::line::Line;
 
 // What is printed, without its LF, and how many bytes of the memory are the board that was laid last; 0 is none.
 pub struct Played {

@@ -9,7 +9,7 @@ use Rattle.halts.specs.Needs.{needs}
 use Rattle.sheet.specs.declared.form.LineForm.{LineForm}
 use Rattle.sheet.specs.declared.form.LineForm.the-variants.{Board, Propose, Steps, Show, Rounds, Proposals}
 use Rattle.sheet.specs.declared.form.LineForm.the-variants.{Refused}
-use Rattle.sheet.specs.Counts.{capped}
+use Rattle.item_reader.specs.Counts.{capped}
 
 unfoldable pub lineForm : (at : ℕ) → Reading Form → LineForm
 lineForm at (reads (board n K)) = Board n K

@@ -1,20 +1,17 @@
 // A line to its form, or to refusal 2, 3 or 4.
-// Relies on the lexer's words and numbers, on items, rounds and pairs; the player of a line relies on it, and the reader of
-// a tape line on `closes`.
+// Relies on the lexer's words and numbers, on brackets and the readers of items, rounds and pairs; the player of a line relies
+// on it.
 ghost use mathlib.Core.Path.{_≡_};
 ghost use Prim.Native.Nat.{_≤_};
 ghost use lib.ListN.{length, drop};
-ghost use lib.Dec.{eqb};
-ghost use Rattle.model.specs.Bytes.{byte};
 ghost use Rattle.model.specs.Forms.{boardRow, proposeRow, stepsRow, showRow, roundsRow, singleIn, togetherIn};
-ghost use Rattle.model.specs.Forms.{wordPlace, formIn, tooDeep, same, orFour, readLine};
-ghost use Rattle.model.specs.Show.{text};
+ghost use Rattle.model.specs.Forms.{wordPlace, formIn, orFour, readLine};
 ghost use Rattle.sheet.specs.LineForms.{lineForm};
-use crate::item::Counted;
-use crate::item::items;
-use crate::pairs::pair_list;
-use crate::rounds::Listed;
-use crate::rounds::round_list;
+use brackets::closes;
+use brackets::opens_pair;
+use brackets::too_deep;
+use item_reader::Counted;
+use item_reader::items;
 use lexer::number::FoundFigure;
 use lexer::number::FoundNumber;
 use lexer::number::spaced_figure;
@@ -23,6 +20,9 @@ use lexer::word::FormWord;
 use lexer::word::Named;
 use lexer::word::first_word;
 use lexer::word::form_named;
+use list_laws::Listed;
+use pair_reader::pair_list;
+use round_reader::round_list;
 
 // A form with its numbers. The items of `steps` stay in the line, from the place `at` on; `count` is how many steps
 // they stand for, 65,537 for any number above 65,536. So do the number and the rounds of `rounds`: there are `rounds`
@@ -36,41 +36,6 @@ pub enum LineForm {
     Rounds { at: usize, rounds: usize, needs: u8 },
     Proposals { at: usize, pairs: usize },
     Refused { number: u8 },
-}
-
-// Whether opening brackets exceed closing ones by more than 8 at some byte.
-fn too_deep(line: &[u8]) -> bool
-    requires { ⌜ length (now line) ≤ 255 ⌝ }
-    ensures { λ r. ⌜ r ≡ tooDeep 0 0 (now (line .entry)) ⌝ }
-{
-    let mut opened: u32 = 0;
-    let mut closed: u32 = 0;
-    let mut i = 0;
-    while i < line.len() {
-        let byte = line[i];
-        if byte == b'(' {
-            opened += 1;
-        }
-        if byte == b')' {
-            closed += 1;
-        }
-        if closed + 8 < opened {
-            return true;
-        }
-        i += 1;
-    }
-    false
-}
-
-// Whether the line ends with a bracket at `at`.
-pub fn closes(line: &[u8], at: usize) -> bool
-    requires { ⌜ at ≤ length (now line) ⌝ }
-    ensures { λ r. ⌜ r ≡ same (drop at (now (line .entry))) (text ")") ⌝ }
-{
-    if line.len() - at != 1 {
-        return false;
-    }
-    line[at] == b')'
 }
 
 fn board_form(line: &[u8], at: usize) -> LineForm
@@ -136,19 +101,6 @@ fn together_form(line: &[u8], at: usize) -> LineForm
         return LineForm::Refused { number: 4 };
     }
     LineForm::Proposals { at, pairs: count }
-}
-
-// Whether a bracket stands behind the byte at `at`, as it does where pairs follow the word.
-fn opens_pair(line: &[u8], at: usize) -> bool
-    ensures { λ r. ⌜ r ≡ eqb (byte (drop at (now (line .entry))) 1) 40 ⌝ }
-{
-    if line.len() <= at {
-        return false;
-    }
-    if line.len() <= at + 1 {
-        return false;
-    }
-    line[at + 1] == b'('
 }
 
 fn propose_form(line: &[u8], at: usize) -> LineForm

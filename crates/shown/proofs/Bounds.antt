@@ -1,31 +1,24 @@
--- What a caller of the crate needs beside its contracts: how long a status, the line of `show` and the lines of a run
--- sheet can be, and how the line of `show` is made of statuses.
--- Relies on Decimals and Statuses; the lines of a run sheet, the call that shows a board and the player rely on it.
-use Rattle.model.proofs.Kit.{_≡_, ap, List, _++_, append-assoc, none, ℕ, zero, suc, _≤_, _<_, _*_, pos, negsuc, length}
+-- What a caller of the crate needs beside its contracts: how long a status and the line of `show` can be, and how the
+-- line of `show` is made of statuses.
+-- Relies on Decimals and Statuses; the call that shows a board relies on it.
+use Rattle.model.proofs.Kit.{_≡_, ap, List, _++_, append-assoc, none, ℕ, zero, suc, _≤_, _<_, _*_, length}
 use Rattle.model.proofs.Kit.{length-append, arith}
 use Rattle.model.specs.declared.Verdict.the-variants.{Accepted}
 use Rattle.model.specs.Figure.{Figure}
 use Rattle.model.specs.Listing.{writing, reading, has-decided, is-spent, Station, idle, active}
 use Rattle.model.specs.Layout.{stationOf}
 use Rattle.model.specs.Standing.{standingOf}
-use Rattle.model.specs.Show.{text, textFrom, signed, worded, standingText, status, statuses, shownLine, shownAs}
-use Rattle.model.specs.Calls.{stations, islands, ran}
-use Rattle.model.specs.Rounds.{played}
-use Rattle.model.specs.Sheet.{refusedText, laidText, proposedText, togetherText, ranText, playedText}
+use Rattle.model.specs.Show.{text, textFrom, worded, standingText, status, statuses, shownLine, shownAs}
+use Rattle.model.specs.Calls.{stations, islands}
 use Rattle.model.specs.Told.{verdict, shownTold}
 use Rattle.model.proofs.Board.Good.{GoodStation, GoodStage}
-use Rattle.shown.specs.declared.line.Line.{Line}
-use Rattle.shown.specs.Puts.{Holds}
-use Rattle.shown.specs.Texts.{statusOf, standingBytes, islandShown, numberedText}
-use Rattle.shown.proofs.Decimals.{length-two, length-any}
+use Rattle.line_writer.specs.declared.line.Line.{Line}
+use Rattle.line_writer.specs.Puts.{Holds}
+use Rattle.shown.specs.Texts.{statusOf, standingBytes, islandShown}
+use Rattle.line_writer.proofs.Decimals.{length-two, length-signed}
 use Rattle.shown.proofs.Statuses.{length-standing, length-status}
 
 -- ---- one status
-
-pub length-signed : (v : Figure) → length (signed v) ≤ 11
-unfolding signed text textFrom
-length-signed (pos k) = omega (arith, length-any k)
-length-signed (negsuc k) = omega (arith, length-any (suc k))
 
 standing-short : (w : List ℕ) (c : ℕ) (v : Figure) → length w ≤ 7 → c < 100 → length (standingBytes w c v) ≤ 22
 standing-short w c v h l = omega (arith, length-standing w c v, length-two c l, length-signed v)
@@ -102,33 +95,3 @@ pub shown-is : (line : Line) (l : List ℕ) → Holds line l
     → shownTold (record { verdict = Accepted; bytes = line .bytes; len = line .len }) ≡ shownAs none l
 unfolding shownTold verdict shownAs
 shown-is line l h = λ i. record { refusal = none; line = h .bytes i; len = h .len i }
-
--- ---- the lines of a run sheet: each leaves room for its LF
-
-pub numbered-short : (w : List ℕ) (k : ℕ) → length w ≤ 64 → length (numberedText w k) < 512
-unfolding numberedText text textFrom
-numbered-short w k h = simp length-append (omega (arith, length-any k))
-
-pub refused-short : (k : ℕ) → length (refusedText k) < 512
-unfolding refusedText numberedText text textFrom
-refused-short k = numbered-short (text "(refused ") k (omega arith)
-
-pub together-short : (m : ℕ) → length (togetherText m) < 512
-unfolding togetherText numberedText text textFrom
-together-short m = numbered-short (text "(proposed ") m (omega arith)
-
-pub laid-short : (n K : ℕ) → length (laidText n K) < 512
-unfolding laidText text textFrom
-laid-short n K = simp length-append (omega (arith, length-any n, length-any K))
-
-pub proposed-short : (i : ℕ) (v : Figure) → length (proposedText i v) < 512
-unfolding proposedText text textFrom
-proposed-short i v = simp length-append (omega (arith, length-any i, length-signed v))
-
-pub ran-short : (s t : ℕ) → length (ranText (ran s t)) < 512
-unfolding ranText text textFrom
-ran-short s t = simp length-append (omega (arith, length-any s, length-any t))
-
-pub played-short : (r d : ℕ) → length (playedText (played r d)) < 512
-unfolding playedText text textFrom
-played-short r d = simp length-append (omega (arith, length-any r, length-any d))

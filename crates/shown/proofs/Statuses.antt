@@ -10,11 +10,11 @@ use Rattle.model.specs.Layout.{recordValue}
 use Rattle.model.specs.Standing.{standingOf}
 use Rattle.model.specs.Told.{standingTold}
 use Rattle.model.specs.Show.{text, textFrom, decimal, signed, worded, standingText, status}
-use Rattle.shown.specs.declared.line.Line.{Line}
-use Rattle.shown.specs.Puts.{Puts, Room}
+use Rattle.line_writer.specs.declared.line.Line.{Line}
+use Rattle.line_writer.specs.Puts.{Puts, Room}
 use Rattle.shown.specs.Texts.{statusOf, standingBytes}
-use Rattle.shown.proofs.Putting.{puts-then}
-use Rattle.shown.proofs.Rooms.{Rooms, rooms}
+use Rattle.line_writer.proofs.Putting.{puts-then}
+use Rattle.line_writer.proofs.Rooms.{Rooms, rooms}
 
 -- ---- the order of the pieces
 

@@ -1,6 +1,5 @@
--- Parts of lines: one station's, as the definition of `show` has it, and the one or two numbers that end a run sheet's
--- answer.
--- Relies on the model's texts and numbers; the contracts of statuses and of the answers rely on it.
+-- One station's part of the line that `show` hands back, as the definition of `show` has it.
+-- Relies on the model's texts and numbers; the contracts of statuses rely on it.
 use mathlib.Core.List.{List, _++_}
 use Prim.Native.Nat.{ℕ}
 use Rattle.model.specs.Figure.{Figure}
@@ -22,11 +21,3 @@ islandShown (active v (writing t c x)) = c
 islandShown (active v (reading t c x p a)) = c
 islandShown (active v (has-decided c x)) = c
 islandShown (active v (is-spent c x)) = c
-
--- "a b)"
-unfoldable pub twoNumbers : (a b : ℕ) → List ℕ
-twoNumbers a b = decimal a ++ text " " ++ decimal b ++ text ")"
-
--- a word and "a)"
-unfoldable pub numberedText : (word : List ℕ) (a : ℕ) → List ℕ
-numberedText w a = w ++ decimal a ++ text ")"

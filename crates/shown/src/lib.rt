@@ -1,9 +1,5 @@
-// How a station stands, and the lines that `show` hands back and that a run sheet's forms print, put together piece by piece:
-// a line by value, words, numbers and the status of a station.
-// Relies on the model's declared types and texts; the calls that tell how stations stand and the player of run sheets rely on
-// it.
-pub mod answer;
-pub mod line;
-pub mod number;
+// How a station stands, and its status in the line that `show` hands back.
+// Relies on the model's declared types and texts and on the writer of lines; the calls that tell how stations stand and the
+// writer of a tape line rely on it.
 pub mod standing;
 pub mod status;

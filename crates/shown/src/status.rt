@@ -2,19 +2,19 @@
 // figure.
 // Relies on the line, on numbers and on how a station stands; the call that shows a board relies on it, and the writer of a
 // tape line on a word with its number and figure.
-use crate::line::Line;
-use crate::line::empty;
-use crate::line::put_word;
-use crate::line::write_byte;
-use crate::line::write_word;
-use crate::number::write_decimal;
-use crate::number::write_figure;
 use crate::standing::standing_of;
+use line_writer::line::Line;
+use line_writer::line::empty;
+use line_writer::line::put_word;
+use line_writer::line::write_byte;
+use line_writer::line::write_word;
+use line_writer::number::write_decimal;
+use line_writer::number::write_figure;
 use model::Record;
 use model::Standing;
 ghost use Rattle.model.specs.Layout.{recordValue};
 ghost use Rattle.model.specs.Show.{status, text};
-ghost use Rattle.shown.specs.Puts.{Holds, Puts, Room, lineOf};
+ghost use Rattle.line_writer.specs.Puts.{Holds, Puts, Room, lineOf};
 ghost use Rattle.shown.specs.Texts.{statusOf, standingBytes};
 
 pub fn opened() -> Line

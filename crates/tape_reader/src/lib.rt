@@ -6,6 +6,7 @@ ghost use lib.ListN.{length, drop};
 ghost use Rattle.model.specs.Tape.{readIn, kindRows, isEntry};
 ghost use Rattle.model.specs.Forms.{rowIn};
 ghost use Rattle.tape_reader.specs.Reading.{given, byRow, EndsIs};
+use brackets::closes;
 use check::same;
 use lexer::number::FoundFigure;
 use lexer::number::FoundNumber;
@@ -13,7 +14,6 @@ use lexer::number::number;
 use lexer::number::spaced_figure;
 use lexer::number::spaced_number;
 use lexer::word::word_end;
-use sheet::form::closes;
 
 // Whether the field of `read` stands at `at`: 1 for a filled register and 0 for an empty one.
 fn read_field(line: &[u8], at: usize) -> bool

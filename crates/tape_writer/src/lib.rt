@@ -1,19 +1,19 @@
 // The line of a tape written: the station, the kind of its step with its fields, and an LF.
 // Relies on the line, on numbers and on a word with a number and a figure; one step taped relies on it.
+use line_writer::line::Line;
+use line_writer::line::empty;
+use line_writer::line::put_byte;
+use line_writer::line::write_byte;
+use line_writer::line::write_word;
+use line_writer::number::write_decimal;
 use model::StepAnswer;
-use shown::line::Line;
-use shown::line::empty;
-use shown::line::put_byte;
-use shown::line::write_byte;
-use shown::line::write_word;
-use shown::number::write_decimal;
 use shown::status::write_standing;
 ghost use mathlib.Core.Bool.{cond};
 ghost use mathlib.Core.List.{[], _∷_, _++_};
 ghost use Rattle.model.specs.Listing.{read};
 ghost use Rattle.model.specs.Tape.{kindText, entryText};
 ghost use Rattle.model.specs.Told.{told};
-ghost use Rattle.shown.specs.Puts.{Holds, Puts, Room, lineOf};
+ghost use Rattle.line_writer.specs.Puts.{Holds, Puts, Room, lineOf};
 ghost use Rattle.tape_writer.specs.Writing.{endBytes};
 
 // A read and whether its register was filled.

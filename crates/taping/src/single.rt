@@ -6,7 +6,7 @@ ghost use lib.ListN.{length, take, replicate};
 ghost use Rattle.model.specs.Bytes.{splice};
 ghost use Rattle.taping.specs.Taping.{taping, tapedOne, tapedSteps, Ready};
 use crate::Taped;
-use shown::line::Line;
+use line_writer::line::Line;
 use stepping::going::is_going;
 use stepping::repeated::step_counted;
 use stepping::sound_step::step_on;

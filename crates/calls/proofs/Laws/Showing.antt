@@ -14,11 +14,11 @@ use Rattle.model.specs.Show.{text, textFrom, statuses, shownLine, shownAs, show
 use Rattle.model.specs.Told.{verdict, shownTold}
 use Rattle.model.proofs.Board.Values.{sound-station}
 use Rattle.model.proofs.Calls.Refusals.{Board, board-of, board-passes, board-first, unless-passes}
-use Rattle.shown.specs.declared.line.Line.{Line}
-use Rattle.shown.specs.Puts.{Holds, Puts, Room}
+use Rattle.line_writer.specs.declared.line.Line.{Line}
+use Rattle.line_writer.specs.Puts.{Holds, Puts, Room}
 use Rattle.shown.specs.Texts.{statusOf, islandShown}
-use Rattle.shown.proofs.Putting.{puts-holds}
-use Rattle.shown.proofs.Rooms.{holds-room}
+use Rattle.line_writer.proofs.Putting.{puts-holds}
+use Rattle.line_writer.proofs.Rooms.{holds-room}
 use Rattle.shown.proofs.Bounds.{status-bound, good-island, statuses-more, statuses-bound, line-bound, shown-is}
 use Rattle.calls.specs.Showing.{openTo, Opened}
 use Rattle.model.proofs.Board.Places.{record-inside}

@@ -10,7 +10,7 @@ use Rattle.lexer.specs.Known.{NumberStands, KnownIs}
 use Rattle.model.proofs.Basics.Tests.{never}
 use Rattle.lexer.proofs.Laws.Given.{found-one, through}
 use Rattle.lexer.proofs.Laws.Known.{stands-there, known-found, known-range}
-use Rattle.sheet.proofs.Laws.Items.{as-number}
+use Rattle.item_reader.proofs.Laws.Items.{as-number}
 use Rattle.item_walks.specs.ItemWalks.{RanPart, PartDone, ItemReads, ItemsRead, ItemDone}
 use Rattle.item_walks.proofs.Laws.Fuel.{agree}
 

@@ -12,8 +12,8 @@ use Rattle.lexer.specs.declared.known.KnownNumber.{KnownNumber}
 use Rattle.lexer.specs.Known.{NumberStands, KnownIs}
 use Rattle.lexer.proofs.Laws.Given.{found-one, Through, through}
 use Rattle.lexer.proofs.Laws.Known.{stands-there, known-found, known-range}
-use Rattle.sheet.proofs.Laws.Items.{as-times}
-use Rattle.sheet.proofs.Laws.Times.{times-number}
+use Rattle.item_reader.proofs.Laws.Items.{as-times}
+use Rattle.item_reader.proofs.Laws.Times.{times-number}
 use Rattle.item_walks.specs.ItemWalks.{RanPart, PartDone, ItemReads, ItemsRead, ItemDone, ItemsDone, repeatAfter}
 use Rattle.item_walks.proofs.Laws.Items.{same-items, begins}
 

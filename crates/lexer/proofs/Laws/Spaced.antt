@@ -2,7 +2,8 @@
 -- Relies on Places, Answers and the model's `spaced` and `figureIn`; the proofs of src/number.rt, and of items and
 -- forms above, rely on it.
 use Rattle.model.proofs.Kit.{_≡_, sym, ap, subst, _∙_, List, none, Option, ℕ, suc, _+_, _-_, _≤_, _<_, eq-eqb, ne-eqb}
-use Rattle.model.proofs.Kit.{ℤ, pos, negsuc, length, drop, drop-of-length-le, getD, drop-drop, w32, toZ, SFits, arith}
+use Rattle.model.proofs.Kit.{ℤ, pos, negsuc, length, drop, drop-of-length-le, getD, drop-drop, w8, w32, toZ, Fits}
+use Rattle.model.proofs.Kit.{SFits, arith}
 use lib.ListN.{List·getD-eq-default}
 use mir.ValLaws.{toZ-pos, toZ-neg}
 use Rattle.model.specs.Figure.{Figure}
@@ -69,6 +70,11 @@ module _ (line : List ℕ) (r : FoundNumber) (o : Option (Read ℕ)) (reads : nu
 pub number-inside : (line : List ℕ) (at low high : ℕ) (r : FoundNumber) → NumberInside line at low high r
     → (v next : ℕ) → r ≡ numbers.At v next → (at < next) × (next ≤ length line) × (low ≤ v) × (v ≤ high)
 number-inside line at low high r inside v next e = subst (NumberInside line at low high) e inside
+
+pub byte-fits : (line : List ℕ) (at : ℕ) (r : FoundNumber) → SpacedIs line at r → (v next : ℕ) → r ≡ numbers.At v next
+    → Fits w8 v
+byte-fits line at r is v next e =
+    record { fits = omega (arith, number-inside line at 0 99 r (is .inside) v next e .3) }
 
 module _ (line : List ℕ) (r : FoundFigure) (o : Option (Read Figure)) (reads : figureAt line r ≡ orFour o) where
   pub figure-missed : (k : ℕ) → r ≡ signed.Refused k → o ≡ none

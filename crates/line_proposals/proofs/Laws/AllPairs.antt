@@ -11,7 +11,7 @@ use Rattle.model.proofs.Calls.Refusals.{board-passes}
 use Rattle.model.proofs.Calls.Proposals.{accepted-of, accepted-later, one-by-one-more}
 use Rattle.model.proofs.Sheet.Pairs.{pair-read, pair-stood}
 use Rattle.lexer.proofs.Laws.Given.{found-one}
-use Rattle.sheet.proofs.Laws.Walks.{Kind, Walk, walk-begun, walk-inside, walk-ended, Next, next, Behind, walk-more}
+use Rattle.list_laws.proofs.Laws.Walks.{Kind, Walk, walk-begun, walk-inside, walk-ended, Next, next, Behind, walk-more}
 use Rattle.proposing.specs.Tried.{Tried, TriesNext}
 use Rattle.proposing.proofs.Laws.Trying.{tried-none}
 use Rattle.line_proposals.specs.declared.PairAt.{PairAt}

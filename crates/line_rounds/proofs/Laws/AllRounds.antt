@@ -7,7 +7,7 @@ use Rattle.model.specs.Calls.{boardRefusal}
 use Rattle.model.specs.Forms.{found, roundIn, roundsIn}
 use Rattle.model.specs.Grammar.{writtenRound}
 use Rattle.model.proofs.Sheet.Lists.{Stations, round-read, round-stood}
-use Rattle.sheet.proofs.Laws.Walks.{Kind, Walk, walk-begun, walk-inside, walk-ended, next, Behind, walk-more}
+use Rattle.list_laws.proofs.Laws.Walks.{Kind, Walk, walk-begun, walk-inside, walk-ended, next, Behind, walk-more}
 use Rattle.rounds.specs.Suspended.{Suspends}
 use Rattle.rounds.specs.Rounds.{afterRound}
 use Rattle.rounds.proofs.Laws.Rounds.{RanRounds, one-round-more, rounds-sound, rounds-bytes}

@@ -24,9 +24,9 @@ use Rattle.model.proofs.Calls.Refusals.{board-of, board-passes}
 use Rattle.model.proofs.Calls.Refused.{lay-refused}
 use Rattle.model.proofs.Sheet.Printed.{shown-text, refusal-of}
 use Rattle.model.proofs.Sheet.PlayedLines.{board-refused, board-lays, no-board, on-board}
-use Rattle.shown.specs.declared.line.Line.{Line}
-use Rattle.shown.specs.Puts.{Holds}
-use Rattle.shown.proofs.Bounds.{refused-short, laid-short, proposed-short, ran-short}
+use Rattle.line_writer.specs.declared.line.Line.{Line}
+use Rattle.line_writer.specs.Puts.{Holds}
+use Rattle.answer_writer.proofs.Bounds.{refused-short, laid-short, proposed-short, ran-short}
 use Rattle.calls.proofs.Laws.Showing as showing
 use Rattle.line_run.specs.LineRuns.{RunsLine}
 use Rattle.player.specs.declared.line.Played.{Played}

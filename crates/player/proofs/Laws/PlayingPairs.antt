@@ -9,9 +9,9 @@ use Rattle.model.specs.Proposals.{proposeAll}
 use Rattle.model.specs.Told.{verdict}
 use Rattle.model.specs.Forms.{wordPlace, readLine}
 use Rattle.model.specs.Sheet.{orRefused, togetherText, playForm}
-use Rattle.shown.specs.declared.line.Line.{Line}
-use Rattle.shown.specs.Puts.{Holds}
-use Rattle.shown.proofs.Bounds.{together-short}
+use Rattle.line_writer.specs.declared.line.Line.{Line}
+use Rattle.line_writer.specs.Puts.{Holds}
+use Rattle.answer_writer.proofs.Bounds.{together-short}
 use Rattle.sheet.specs.declared.form.LineForm.the-variants.{Proposals}
 use Rattle.sheet.proofs.Laws.Readings.{read-as}
 use Rattle.proposing.specs.Answers.{ProposesAll}

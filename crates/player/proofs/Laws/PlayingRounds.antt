@@ -9,9 +9,9 @@ use Rattle.model.specs.Rounds.{played, rounds}
 use Rattle.model.specs.Told.{roundsTold}
 use Rattle.model.specs.Sheet.{playedText, playForm}
 use Rattle.model.proofs.Calls.Rounds.{rounds-told}
-use Rattle.shown.specs.declared.line.Line.{Line}
-use Rattle.shown.specs.Puts.{Holds}
-use Rattle.shown.proofs.Bounds.{played-short}
+use Rattle.line_writer.specs.declared.line.Line.{Line}
+use Rattle.line_writer.specs.Puts.{Holds}
+use Rattle.answer_writer.proofs.Bounds.{played-short}
 use Rattle.line_rounds.specs.LineRounds.{LineHas, PlaysLine}
 use Rattle.line_rounds.proofs.Laws.WholeLine.{its, few}
 use Rattle.player.specs.declared.line.Played.{Played}

@@ -1,31 +1,31 @@
--- The forms by their words: what follows `board`, `propose`, `steps` and `rounds`, as the readers of numbers, figures,
--- items and lists found it. Relies on the lexer's Places and Spaced and the model's table of words; the proofs of
+-- The forms by their words: what follows `board`, `propose`, `steps`, `rounds` and `show`, as the readers of numbers,
+-- figures, items, lists and brackets found it. Relies on the lexer's Places and Spaced and the model's table of words; the proofs of
 -- src/form.rt rely on it.
 use Rattle.model.proofs.Kit.{_≡_, sym, ap, _∙_, Bool, true, false, cond, List, [], none, some, Option, ℕ, _+_}
-use Rattle.model.proofs.Kit.{_≤_, _<_, ℤ, length, drop, drop-of-length-le, w8, Fits, arith}
+use Rattle.model.proofs.Kit.{_≤_, _<_, ℤ, length, drop, drop-of-length-le, arith}
 use Rattle.model.specs.Show.{text}
 use Rattle.model.specs.Forms as forms
 use Rattle.model.specs.Forms.{Items, Read, found, andThen, itemsIn, roundIn, roundsIn, expand, closing, boardRow}
-use Rattle.model.specs.Forms.{singleIn, stepsRow, roundsRow, same, reads, orFour}
+use Rattle.model.specs.Forms.{singleIn, stepsRow, roundsRow, showRow, same, reads, orFour}
 use Rattle.lexer.specs.declared.number.FoundNumber.{FoundNumber}
 use Rattle.lexer.specs.declared.number.FoundNumber.the-variants as numbers
 use Rattle.lexer.specs.declared.number.FoundFigure.{FoundFigure}
 use Rattle.lexer.specs.declared.number.FoundFigure.the-variants as signed
-use Rattle.sheet.specs.declared.item.Counted.{Counted}
-use Rattle.sheet.specs.declared.item.Counted.the-variants as counts
-use Rattle.sheet.specs.declared.rounds.Listed.{Listed}
-use Rattle.sheet.specs.declared.rounds.Listed.the-variants as lists
-use Rattle.sheet.specs.declared.form.LineForm.the-variants.{Board, Propose, Steps, Rounds, Refused}
+use Rattle.item_reader.specs.declared.Counted.{Counted}
+use Rattle.item_reader.specs.declared.Counted.the-variants as counts
+use Rattle.list_laws.specs.declared.Listed.{Listed}
+use Rattle.list_laws.specs.declared.Listed.the-variants as lists
+use Rattle.sheet.specs.declared.form.LineForm.the-variants.{Board, Propose, Steps, Rounds, Show, Refused}
 use Rattle.halts.specs.Needs.{needs}
 use Rattle.lexer.specs.Placed.{SpacedIs, FigureIs}
-use Rattle.sheet.specs.Counts.{capped, countedAt, readAs, sized, ItemsAre}
-use Rattle.sheet.specs.Lists.{Summary, summary, listedAt, ListIs}
+use Rattle.item_reader.specs.Counts.{capped, countedAt, sized, ItemsAre}
+use Rattle.list_laws.specs.Lists.{readAs, Summary, summary, listedAt, ListIs}
 use Rattle.sheet.specs.LineForms.{lineForm}
 use Rattle.lexer.proofs.Laws.Places.{here}
 use Rattle.lexer.proofs.Laws.Spaced.{number-missed, number-found, number-inside, figure-missed, figure-found}
 use Rattle.lexer.proofs.Laws.Spaced.{figure-inside}
-use Rattle.sheet.proofs.Laws.Items.{counted-missed, counted-found}
-use Rattle.sheet.proofs.Laws.Lists.{as-none, as-found, listed-missed, listed-found}
+use Rattle.item_reader.proofs.Laws.Items.{counted-missed, counted-found}
+use Rattle.list_laws.proofs.Laws.Lists.{as-none, as-found, listed-missed, listed-found}
 
 -- what the code answers of a form that is missing, and of one that was read
 module _ (at : ℕ) {o : Option forms.Form} where
@@ -49,9 +49,6 @@ module _ (line : List ℕ) (at : ℕ) (first : FoundNumber) (is : SpacedIs line 
   propose-no-first k e = missing at (rw (number-missed line first _ (is .reads) k e))
 
   module _ (n next : ℕ) (e : first ≡ numbers.At n next) where
-    pub byte-fits : Fits w8 n
-    byte-fits = record { fits = omega (arith, number-inside line at 0 99 first (is .inside) n next e .3) }
-
     module _ (second : FoundNumber) (more : SpacedIs line next second) where
       pub board-no-second : (j : ℕ) → second ≡ numbers.Refused j
           → Refused 4 ≡ lineForm at (orFour (boardRow .reader (drop at line)))
@@ -209,3 +206,13 @@ module _ (line : List ℕ) (at : ℕ) (first : FoundNumber) (is : SpacedIs line 
       rounds-read h =
           ap (λ (s : Summary). Rounds at (s .count) (s .needs)) (sym (listed .2))
           ∙ rw behind-number (end-read (forms.rounds k) at _ line (listed .0) after (listed .1) h)
+
+-- ---- `(show)`
+
+pub shows : (at : ℕ) (l : List ℕ) → same l (text ")") ≡ true → Show ≡ lineForm at (orFour (showRow .reader l))
+unfolding lineForm orFour showRow closing
+shows at l e = simp e
+
+pub shows-not : (at : ℕ) (l : List ℕ) → same l (text ")") ≡ false → Refused 4 ≡ lineForm at (orFour (showRow .reader l))
+unfolding lineForm orFour showRow closing
+shows-not at l e = simp e

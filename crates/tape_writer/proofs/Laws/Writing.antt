@@ -10,11 +10,11 @@ use Rattle.model.specs.Listing.{read}
 use Rattle.model.specs.Show.{text, textFrom, decimalIn, decimal}
 use Rattle.model.specs.Tape.{endText, kindText, entryText}
 use Rattle.model.specs.Told.{told}
-use Rattle.shown.specs.declared.line.Line.{Line}
-use Rattle.shown.specs.Puts.{Holds, Puts, Room}
+use Rattle.line_writer.specs.declared.line.Line.{Line}
+use Rattle.line_writer.specs.Puts.{Holds, Puts, Room}
 use Rattle.shown.specs.Texts.{standingBytes}
-use Rattle.shown.proofs.Putting.{puts-nothing, puts-then, puts-same, puts-holds}
-use Rattle.shown.proofs.Rooms.{Rooms, rooms, rooms-four, holds-room, room-same}
+use Rattle.line_writer.proofs.Putting.{puts-nothing, puts-then, puts-same, puts-holds}
+use Rattle.line_writer.proofs.Rooms.{Rooms, rooms, rooms-four, holds-room, room-same}
 use Rattle.tape_writer.specs.Writing.{endBytes}
 use Rattle.tape_writer.proofs.Laws.WritingLength.{line-short}
 

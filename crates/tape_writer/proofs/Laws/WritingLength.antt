@@ -6,8 +6,8 @@ use Rattle.model.specs.Figure.{Figure}
 use Rattle.model.specs.Listing.{Answer, wrote, read, went, marked, adopted, decided, spent, refused}
 use Rattle.model.specs.Show.{text, textFrom}
 use Rattle.model.specs.Tape.{Entry, endText, kindText, entryText}
-use Rattle.shown.proofs.Bounds.{length-signed}
-use Rattle.shown.proofs.Decimals.{length-any}
+use Rattle.line_writer.proofs.Decimals.{length-signed}
+use Rattle.line_writer.proofs.Decimals.{length-any}
 
 end-short : (word : String) (c : ℕ) (x : Figure) (k : ℕ) → length (text word) ≤ 7 → length (endText word c x k) ≤ 42
 unfolding endText text textFrom

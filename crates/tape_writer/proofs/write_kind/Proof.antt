@@ -2,7 +2,7 @@
 use Rattle.model.proofs.Kit.{needs}
 use Rattle.model.specs.Show.{text, textFrom}
 use Rattle.model.proofs.Basics.Numbers.{landed}
-use Rattle.shown.proofs.Rooms.{room-same}
+use Rattle.line_writer.proofs.Rooms.{room-same}
 use Rattle.tape_writer.proofs.Laws.Writing.{puts-back, wrote-text, read-text, refused-puts, went-text}
 use Rattle.tape_writer.proofs.Laws.Writing.{marked-text}
 use Rattle.tape_writer.proofs.Laws.Writing.{adopted-text, decided-text, spent-text, room-as, puts-as}

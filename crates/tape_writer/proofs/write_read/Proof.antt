@@ -1,7 +1,7 @@
 -- `write_read` meets its contract: either text is a law of Writing.
 use Rattle.model.proofs.Kit.{refl}
 use Rattle.model.specs.Show.{text, textFrom}
-use Rattle.shown.proofs.Rooms.{room-same}
+use Rattle.line_writer.proofs.Rooms.{room-same}
 use Rattle.tape_writer.proofs.Laws.Writing.{puts-back, filled-text, empty-text}
 use Rattle.tape_writer.proofs.write_read.Statement.{statement}
 use Rattle.tape_writer.proofs.write_read.Tie as tie

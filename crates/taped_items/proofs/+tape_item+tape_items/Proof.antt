@@ -2,7 +2,7 @@
 -- are the measure of both; a loop over repeats, and one over the items of a list, each keep what has been taped.
 -- Relies on the laws of items gone over and on those of steps taped.
 use Rattle.model.proofs.Kit.{ℕ, _-_, _<_, needs, length, arith}
-use Rattle.sheet.proofs.Laws.Items.{falls-to}
+use Rattle.item_reader.proofs.Laws.Items.{falls-to}
 use Rattle.item_walks.proofs.Laws.Items.{item-inside, station-stands, station-fits, one-step}
 use Rattle.item_walks.proofs.Laws.Repeats.{Repeats, repeats-stand, repeats-place, times-behind, repeats-begin}
 use Rattle.item_walks.proofs.Laws.Repeats.{repeats-end, fewer-left}

@@ -21,7 +21,7 @@ use Rattle.line_rounds.proofs.Laws.WholeLine.{few}
 use Rattle.sheet.specs.declared.form.LineForm.{LineForm}
 use Rattle.sheet.specs.declared.form.LineForm.the-variants as lines
 use Rattle.sheet.specs.LineForms.{lineForm}
-use Rattle.sheet.specs.Counts.{capped}
+use Rattle.item_reader.specs.Counts.{capped}
 use Rattle.taped_sheet.specs.SheetParts.{mostSteps, MayFill}
 use Rattle.taped_line.specs.TapedLines.{lineTape}
 use Rattle.taped_line.proofs.Laws.Lines.{Untaped, untaped-board, untaped-propose, untaped-show, untaped-refused}

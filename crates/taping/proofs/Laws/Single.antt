@@ -12,9 +12,9 @@ use Rattle.model.specs.Listing.{accepted}
 use Rattle.model.specs.Calls.{stepOn}
 use Rattle.model.specs.Tape.{Entry, entryText}
 use Rattle.model.specs.Told.{told}
-use Rattle.shown.specs.declared.line.Line.{Line}
-use Rattle.shown.specs.Puts.{Holds}
-use Rattle.shown.proofs.Rooms.{holds-room}
+use Rattle.line_writer.specs.declared.line.Line.{Line}
+use Rattle.line_writer.specs.Puts.{Holds}
+use Rattle.line_writer.proofs.Rooms.{holds-room}
 use Rattle.accessing.specs.Accessed.{StepsOn}
 use Rattle.stepping.specs.Stepped.{RunsOn}
 use Rattle.tape_writer.proofs.Laws.WritingLength.{line-short}

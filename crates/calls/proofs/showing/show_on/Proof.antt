@@ -1,7 +1,7 @@
 -- `showing::show_on` meets its contract: the line of the stations, closed, never passes 512 bytes, so 17 cannot arise.
 use Rattle.model.proofs.Kit.{needs}
 use Rattle.model.specs.Show.{text, textFrom}
-use Rattle.shown.specs.Puts.{lineOf}
+use Rattle.line_writer.specs.Puts.{lineOf}
 use Rattle.calls.proofs.Laws.Showing.{closes, shown-on}
 use Rattle.calls.proofs.showing.show_on.Statement.{statement}
 use Rattle.calls.proofs.showing.show_on.Tie as tie

@@ -1,6 +1,6 @@
 -- `showing::stations_of` meets its contract: the loop puts one station after another; each turn is one law of Showing.
 use Rattle.model.proofs.Kit.{refl, _-_, _≤_, arith}
-use Rattle.shown.specs.Puts.{Holds, lineOf}
+use Rattle.line_writer.specs.Puts.{Holds, lineOf}
 use Rattle.calls.specs.Showing.{openTo}
 use Rattle.soundness.proofs.Laws.Placing.{head-long, n-high, k-high}
 use Rattle.calls.proofs.Laws.Showing.{fits-one, one-more, begins, all-open, value-at, record-inside-at}

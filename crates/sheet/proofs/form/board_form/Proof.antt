@@ -1,7 +1,7 @@
 -- `form::board_form` meets its contract: two numbers behind spaces, and the closing bracket.
 use Rattle.model.proofs.Kit.{needs}
-use Rattle.sheet.proofs.Laws.Forms.{byte-fits, board-no-first, board-no-second, board-behind, board-open}
-use Rattle.sheet.proofs.Laws.Forms.{board-read}
+use Rattle.lexer.proofs.Laws.Spaced.{byte-fits}
+use Rattle.sheet.proofs.Laws.Forms.{board-no-first, board-no-second, board-behind, board-open, board-read}
 use Rattle.sheet.proofs.form.board_form.Statement.{statement}
 use Rattle.sheet.proofs.form.board_form.Tie as tie
 

@@ -1,7 +1,8 @@
 -- `form::rounds_form` meets its contract: a number behind a space, and rounds up to their closing bracket, which ends
 -- the line.
 use Rattle.model.proofs.Kit.{needs}
-use Rattle.sheet.proofs.Laws.Forms.{byte-fits, rounds-no-number, rounds-missing, rounds-behind, rounds-read}
+use Rattle.lexer.proofs.Laws.Spaced.{byte-fits}
+use Rattle.sheet.proofs.Laws.Forms.{rounds-no-number, rounds-missing, rounds-behind, rounds-read}
 use Rattle.sheet.proofs.form.rounds_form.Statement.{statement}
 use Rattle.sheet.proofs.form.rounds_form.Tie as tie
 

@@ -1,6 +1,6 @@
 -- `form::show_form` meets its contract: behind the word stands the closing bracket alone.
 use Rattle.model.proofs.Kit.{sym, _∙_, needs}
-use Rattle.sheet.proofs.Laws.Depth.{shows, shows-not}
+use Rattle.sheet.proofs.Laws.Forms.{shows, shows-not}
 use Rattle.sheet.proofs.form.show_form.Statement.{statement}
 use Rattle.sheet.proofs.form.show_form.Tie as tie
 

@@ -1,6 +1,7 @@
 -- `form::single_form` meets its contract: a number and a figure behind spaces, and the closing bracket.
 use Rattle.model.proofs.Kit.{needs}
-use Rattle.sheet.proofs.Laws.Forms.{byte-fits, propose-no-first, propose-no-second, propose-behind, propose-open}
+use Rattle.lexer.proofs.Laws.Spaced.{byte-fits}
+use Rattle.sheet.proofs.Laws.Forms.{propose-no-first, propose-no-second, propose-behind, propose-open}
 use Rattle.sheet.proofs.Laws.Forms.{propose-read}
 use Rattle.sheet.proofs.form.single_form.Statement.{statement}
 use Rattle.sheet.proofs.form.single_form.Tie as tie

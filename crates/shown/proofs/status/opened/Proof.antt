@@ -1,8 +1,8 @@
 -- `status::opened` meets its contract: the bytes are the text's, after nothing.
 use Rattle.model.proofs.Kit.{refl, [], needs}
 use Rattle.model.specs.Show.{text, textFrom}
-use Rattle.shown.proofs.Putting.{puts-holds}
-use Rattle.shown.proofs.Rooms.{holds-room}
+use Rattle.line_writer.proofs.Putting.{puts-holds}
+use Rattle.line_writer.proofs.Rooms.{holds-room}
 use Rattle.shown.proofs.status.opened.Statement.{statement}
 use Rattle.shown.proofs.status.opened.Tie as tie
 

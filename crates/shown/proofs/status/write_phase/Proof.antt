@@ -2,7 +2,7 @@
 use Rattle.model.proofs.Kit.{needs}
 use Rattle.model.specs.Show.{text, textFrom}
 use Rattle.model.proofs.Basics.Numbers.{landed}
-use Rattle.shown.proofs.Rooms.{room-same}
+use Rattle.line_writer.proofs.Rooms.{room-same}
 use Rattle.shown.proofs.Statuses.{idle-text, idle-puts, going-text, decided-text, spent-text, room-as, puts-as}
 use Rattle.shown.proofs.status.write_phase.Statement.{statement}
 use Rattle.shown.proofs.status.write_phase.Tie as tie

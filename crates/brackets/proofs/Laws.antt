@@ -1,0 +1,3 @@
+-- Laws of brackets, by subject.
+pub mod Depth
+pub mod Opening

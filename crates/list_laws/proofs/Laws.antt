@@ -1,0 +1,3 @@
+-- Laws of lists, by subject.
+pub mod Lists
+pub mod Walks

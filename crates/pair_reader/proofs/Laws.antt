@@ -1,0 +1,2 @@
+-- Laws of the reader of pairs.
+pub mod Pairs

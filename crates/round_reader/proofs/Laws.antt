@@ -1,0 +1,2 @@
+-- Laws of the reader of rounds.
+pub mod Rounds

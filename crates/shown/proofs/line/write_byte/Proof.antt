@@ -1,9 +1,0 @@
--- `line::write_byte` meets its contract: its return is a law of Putting.
-use Rattle.model.proofs.Kit.{needs}
-use Rattle.shown.specs.Puts.{lineOf}
-use Rattle.shown.proofs.Putting.{puts-byte}
-use Rattle.shown.proofs.line.write_byte.Statement.{statement}
-use Rattle.shown.proofs.line.write_byte.Tie as tie
-
-pub write-byte-spec : {M : Type 1} → statement M
-write-byte-spec = tie.close (tie.spec (λ c. search needs) (λ c. search needs) (λ c. puts-byte (lineOf _ _) _ (c .pre)))
