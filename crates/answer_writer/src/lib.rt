@@ -1,5 +1,5 @@
 // The lines that a run sheet's forms print, but for the stations of `(show)`.
-// Relies on the writer of lines; the player of run sheets relies on it.
+// Relies on the writer of lines; the player of a line, the answers of a sheet and the program that compares tapes rely on it.
 use line_writer::line::Line;
 use line_writer::line::empty;
 use line_writer::line::put_word;

@@ -1,5 +1,5 @@
 // The brackets of a line: how deep they go, the one that ends a line, and the one that begins pairs.
-// Relies on the model's depth alone; the reader of a line relies on it, and the reader of a tape line on `closes`.
+// Relies on the model's forms alone; the reader of a line relies on it, and the reader of a tape line on `closes`.
 ghost use mathlib.Core.Path.{_≡_};
 ghost use Prim.Native.Nat.{_≤_};
 ghost use lib.ListN.{length, drop};

@@ -1,6 +1,6 @@
 // The items of `steps`: the reader of an item and the reader of a list of items call each other, and count the steps.
-// Relies on the lexer's numbers and words; the reader of a line relies on it, and the walks along items on its laws. It knows no
-// board.
+// Relies on the lexer's numbers and words, and its laws on what is read of a list; the reader of a line relies on it, and the
+// walks along items on its laws. It knows no board.
 ghost use mathlib.Core.Path.{_≡_};
 ghost use Rattle.item_reader.specs.Counts.{capped, TimesIs, ItemIs, ItemsAre};
 use lexer::number::FoundNumber;

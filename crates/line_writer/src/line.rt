@@ -1,5 +1,5 @@
 // A line of at most 512 bytes, by value or as lent bytes, and what is put at its end.
-// Relies on nothing; numbers, statuses and the lines of a run sheet rely on it.
+// Relies on nothing; numbers, statuses, the lines of a run sheet and those of a tape rely on it.
 ghost use mathlib.Core.List.{[], _∷_};
 ghost use Rattle.line_writer.specs.Puts.{Holds, Puts, Room, lineOf};
 

@@ -1,5 +1,5 @@
 // Numbers as decimal digits: no plus, no leading zero, no −0.
-// Relies on the line; statuses and the lines of a run sheet rely on it.
+// Relies on the line; statuses, the lines of a run sheet and those of a tape rely on it.
 use crate::line::write_byte;
 use crate::line::write_word;
 ghost use mathlib.Core.Path.{_≡_};

@@ -12,6 +12,7 @@ pub mod RunCalls
 pub mod Along
 pub mod History
 pub mod Events
+pub mod Decided
 pub mod OneFigure
 pub mod Until
 pub mod InTurn

@@ -5,7 +5,7 @@ use Rattle.model.proofs.Kit.{_≡_, refl, sym, ap, subst, _∙_, _&&_, 
 use Rattle.model.proofs.Kit.{_-_, _≤_, _<_, _*_, ltb-true, ltb, lit<, ℕ-discrete, arith}
 use native.Mathlib.Nat.{le-refl}
 use Rattle.model.specs.Figure.{Figure}
-use Rattle.model.specs.Listing.{empty, Stage, has-decided, Station, idle, active, inM}
+use Rattle.model.specs.Listing.{empty, Stage, Station, idle, active, inM}
 use Rattle.model.specs.Layout.{freshBoard, readRegister, registerValue, registerOf, stationOf, readRecord}
 use Rattle.model.specs.Layout.{recordValue, ofPhase}
 use Rattle.model.specs.Calls.{stations, islands}
@@ -16,16 +16,16 @@ use Rattle.model.proofs.Board.Codec.{register, station, Fits, FitsStati
 use Rattle.model.proofs.Board.Boards.{registerPart}
 use Rattle.model.proofs.Board.Fresh.{fresh-zero, fresh-empty}
 use Rattle.model.proofs.Listing.Collect.{Filled}
-use Rattle.model.proofs.Calls.Refusals.{Shape, laid-fresh}
+use Rattle.model.proofs.Calls.Refusals.{Shape, laid-fresh, laid-not-two}
 use Rattle.model.proofs.Calls.CallsKeep.{fresh-board, station-of-fits}
 use Rattle.model.proofs.Agreement.State.{State, initial}
-use Rattle.model.proofs.Agreement.StateCalls.{Inv, inv-initial}
-use Rattle.model.proofs.Agreement.Decisions as invariant
-use Rattle.model.proofs.Bridge.View.{inside, there, view, view-station}
-use Rattle.model.proofs.Bridge.Lists.{Held, ready, held-after}
+use Rattle.model.proofs.Agreement.StateCalls.{inv-initial}
+use Rattle.model.proofs.Bridge.View.{inside, there, view}
+use Rattle.model.proofs.Bridge.Lists.{Held, ready}
 use Rattle.model.proofs.Bridge.Along.{mOf}
-use Rattle.model.proofs.Bridge.History.{absurd-idle, proposal-of, steps-of}
-use Rattle.model.proofs.Bridge.Events.{steps-end, decides-end}
+use Rattle.model.proofs.Bridge.History.{absurd-idle, proposal-of}
+use Rattle.model.proofs.Bridge.Events.{steps-end}
+use Rattle.model.proofs.Bridge.Decided.{Unstepped, Witness, agreement, witness, stepped-in-list}
 use Rattle.model.proofs.Bridge.InTurn.{Proper, AllProper, first-decides}
 use Rattle.model.proofs.Bridge.Seats.{proposalIn, seat, seats, among-is, is-among, seats-once, all-seats}
 
@@ -48,7 +48,7 @@ module _ (n K : ℕ) where
   unfolding stations islands freshBoard
   fresh-held b s = record { board = fresh-board n K b s; isN = refl; isK = refl; inv = rw fresh-view (inv-initial n) }
 
-  fresh-m : (j : ℕ) → Filled (mOf n K j (freshBoard n K)) → ⊥
+  pub fresh-m : Unstepped n K (freshBoard n K)
   unfolding mOf initial
   fresh-m j h = subst (λ (st : State Figure). Filled (st .register inM j)) fresh-view h
 
@@ -59,7 +59,8 @@ proposal-fits (active v s) h = h .0
 
 -- ---- the three clauses, of a list from a fresh board
 
-module _ (n K : ℕ) (b : List ℕ) (shape : Shape n K b) (cs : List Call) (a : AllAllowed cs (freshBoard n K)) where
+module _ (n K : ℕ) (b : List ℕ) (shape : Shape n K b) (not-two : n ≡ 2 → ⊥) (cs : List Call)
+    (a : AllAllowed cs (freshBoard n K)) where
   start : Held n K (freshBoard n K)
   start = fresh-held n K b shape
 
@@ -69,48 +70,21 @@ module _ (n K : ℕ) (b : List ℕ) (shape : Shape n K b) (cs : List Call) (a : 
   abbrev InList : (Call → List ℕ → Type 0) → Type 0
   InList P = Some P cs (freshBoard n K)
 
-  kept : Inv n (view n K end)
-  kept = held-after n K cs (freshBoard n K) start a .inv
-
-  -- a decision stands in the state at the end
-  decided : (i : ℕ) (v : Figure) → InList (Decides i v)
-      → (w : Figure) × (k : ℕ) × (view n K end .station (i - 1) ≡ active w (has-decided k v))
-  decided i v s =
-      let d = decides-end n K i v cs (freshBoard n K) start a s in
-      (d .proposal, d .island, view-station n K end (i - 1) (d .own) ∙ d .stands)
-
-  pub agreement : (i j : ℕ) (v w : Figure) → InList (Decides i v) → InList (Decides j w) → v ≡ w
-  agreement i j v w p q = invariant.agreement (i - 1) (j - 1) kept (decided i v p .2) (decided j w q .2)
-
   -- a station whose proposal is on the board at the end proposed it in the list
   proposed-in-list : (j : ℕ) → j < n → (v : Figure) (s : Stage Figure) → stationOf n K j end ≡ active v s
       → InList (Proposes (suc j) v)
   proposed-in-list j h v s e =
       ⊎-elim (λ q. absurd-idle (fresh-station n K j h) (q .1)) (λ q. q) (proposal-of n K j h v cs _ start a (s, e))
 
-  stepped-in-list : (j : ℕ) → j < n → Filled (mOf n K j end) → InList (Steps (suc j))
-  stepped-in-list j h f = ⊎-elim (λ q. absurd (fresh-m n K j q)) (λ q. q) (steps-of n K j h cs _ start a f)
-
-  -- who proposed the decided figure: its index, and what the board says of it
-  record Witness (v : Figure) : Type 0 where
-    who : ℕ
-    own : who < n
-    stage : Stage Figure
-    proposal : stationOf n K who end ≡ active v stage
-    steps : Filled (mOf n K who end)
-
-  witness : (i : ℕ) (v : Figure) → InList (Decides i v) → Witness v
-  unfolding mOf
-  witness i v p =
-      let (j, s, h, e, f) = invariant.validity (i - 1) kept (decided i v p .2) in
-      record { who = j; own = h; stage = s; proposal = sym (view-station n K end j h) ∙ e; steps = f }
+  stepped : (j : ℕ) → j < n → Filled (mOf n K j end) → InList (Steps (suc j))
+  stepped = stepped-in-list n K (freshBoard n K) start cs a (fresh-m n K)
 
   pub validity : (i : ℕ) (v : Figure) → InList (Decides i v) → (j : ℕ) × InList (Proposes j v) × InList (Steps j)
   validity i v p =
-      let w = witness i v p in (
+      let w = witness n K _ start cs a i v p in (
         suc (w .who),
         proposed-in-list (w .who) (w .own) v (w .stage) (w .proposal),
-        stepped-in-list (w .who) (w .own) (w .steps),
+        stepped (w .who) (w .own) (w .steps),
       )
 
   -- ---- the order
@@ -120,7 +94,7 @@ module _ (n K : ℕ) (b : List ℕ) (shape : Shape n K b) (cs : List Call) (a : 
       → InList (Proposes (seat n K end j .station) (seat n K end j .figure))
   unfolding seat proposalIn
   seat-proposed j h f =
-      let t = steps-end n K (suc j) cs (freshBoard n K) start a (stepped-in-list j h f) in
+      let t = steps-end n K (suc j) cs (freshBoard n K) start a (stepped j h f) in
       let index : suc j - 1 ≡ j = omega arith in
       let e = rw index at (t .stands .1) in
       proposed-in-list j h _ (t .stands .0) (rw e)
@@ -133,7 +107,7 @@ module _ (n K : ℕ) (b : List ℕ) (shape : Shape n K b) (cs : List Call) (a : 
     fits = proposal-fits (stationOf n K j end) (station-of-fits n K j end);
   }
 
-  module _ (v : Figure) (w : Witness v) where
+  module _ (v : Figure) (w : Witness n K end v) where
     abbrev others : List Seat
     others = seats n K end (w .who) n
 
@@ -154,8 +128,8 @@ module _ (n K : ℕ) (b : List ℕ) (shape : Shape n K b) (cs : List Call) (a : 
     names-no-other : (i : ℕ) → Among i named → InList (Steps i)
     unfolding named Among seat
     names-no-other i =
-        ⊎-elim (λ e. rw e (stepped-in-list (w .who) (w .own) (w .steps)))
-        (λ q. let (j, h, e, t) = among-is n K end (w .who) n i q in rw e (stepped-in-list j h (t .steps)))
+        ⊎-elim (λ e. rw e (stepped (w .who) (w .own) (w .steps)))
+        (λ q. let (j, h, e, t) = among-is n K end (w .who) n i q in rw e (stepped j h (t .steps)))
 
     named-once : Once named
     unfolding named Once seat
@@ -179,7 +153,7 @@ module _ (n K : ℕ) (b : List ℕ) (shape : Shape n K b) (cs : List Call) (a : 
     named-decide : (fuel : ℕ) → 6 * (n + 1) ≤ fuel → EachDecides fuel v named (freshBoard n K)
     unfolding named AllProper
     named-decide fuel enough =
-        first-decides n K fuel (shape .islands-low) enough v (seat n K end (w .who)) others (freshBoard n K)
+        first-decides n K fuel not-two (shape .islands-low) enough v (seat n K end (w .who)) others (freshBoard n K)
         (ready n K _ start) (fresh-view n K) named-figure
         (all-named (AllProper n) tt (λ j l h f q. (seat-proper j h, q))) named-once
 
@@ -195,7 +169,11 @@ module _ (n K : ℕ) (b : List ℕ) (shape : Shape n K b) (cs : List Call) (a : 
     }
 
   fresh-demand3 : Demand3 n K (freshBoard n K) cs
-  fresh-demand3 = record { agreement = agreement; validity = validity; sequential = λ i v p. ordered v (witness i v p) }
+  fresh-demand3 = record {
+    agreement = agreement n K (freshBoard n K) start cs a;
+    validity = validity;
+    sequential = λ i v p. ordered v (witness n K _ start cs a i v p);
+  }
 
 -- ---- demand 3
 
@@ -204,4 +182,4 @@ unfolding AnyList
 demand3 n K lent e =
     let s = laid-fresh n K lent e in
     subst (λ (b : List ℕ). (cs : List Call) → AllAllowed cs b → Demand3 n K b cs) (sym (s .1))
-    (fresh-demand3 n K lent (s .0))
+    (fresh-demand3 n K lent (s .0) (laid-not-two n K lent e))

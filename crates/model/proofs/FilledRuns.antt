@@ -16,8 +16,8 @@ use Rattle.model.specs.Sound.{collectZero, bestIslandZero, bestZero, see
 use Rattle.model.specs.Sound.{ownPassed, turnsBefore, presentPass, islandOf, mostSteps, stepsKept, mostMet}
 use Rattle.model.specs.Sound.{metKept, fieldsSound, recordSound, sound}
 use Rattle.model.specs.Calls.{unless, ranges, shapeRefusal, stations, islands, boardRefusal, stationRefusal}
-use Rattle.model.specs.Calls.{stationAt, unlessRefused, putRecord, putRegister, notIdle, propose, notGoing}
-use Rattle.model.specs.Calls.{access, stepped, stepOn, step}
+use Rattle.model.specs.Calls.{stationAt, unlessRefused, putRecord, putRegister, twoRefusal, notIdle, propose}
+use Rattle.model.specs.Calls.{notGoing, access, stepped, stepOn, step}
 use Rattle.model.specs.Runs.{after}
 use Rattle.model.specs.WholeSteps.{registersFrom}
 use Rattle.model.specs.FilledCount.{filledAmong}
@@ -33,5 +33,5 @@ unfolding proposedFrom reports oneTurn after registersFrom filledAmong number di
     islandInside bestInside flagKnown restZero idleZero collectZero bestIslandZero bestZero seenKnown sameRegister
     ownWritten ownSeen ownPassed turnsBefore presentPass islandOf mostSteps stepsKept mostMet metKept fieldsSound
     recordSound sound unless ranges shapeRefusal stations islands boardRefusal stationRefusal stationAt unlessRefused
-    putRecord putRegister notIdle propose notGoing access stepped stepOn step
+    putRecord putRegister twoRefusal notIdle propose notGoing access stepped stepOn step
 filled-runs = record { sheet = refl; between = refl; three-filled = refl; alone = refl }

@@ -14,7 +14,7 @@ use Rattle.model.specs.LeftRunning.{LeftRunning, Single, OnFresh}
 use Rattle.model.proofs.Board.Codec.{Fits}
 use Rattle.model.proofs.Board.Places.{InBoard}
 use Rattle.model.proofs.Basics.Numbers.{same-law}
-use Rattle.model.proofs.Calls.Refusals.{Shape, laid-fresh}
+use Rattle.model.proofs.Calls.Refusals.{Shape, laid-fresh, laid-not-two}
 use Rattle.model.proofs.Agreement.Cells.{cells}
 use Rattle.model.proofs.Agreement.StateCalls.{inv-initial}
 use Rattle.model.proofs.Termination.Climbs.{Safe, climbs-inductive, climbs-initial}
@@ -76,7 +76,7 @@ leaves-room : (b : List ℕ) → NobodyStepped b → RoomAbove b
 unfolding NobodyStepped RoomAbove UpTo
 leaves-room b h j l = rw (h j l) tt
 
-module _ (n K : ℕ) (lent : List ℕ) (shape : Shape n K lent) where
+module _ (n K : ℕ) (lent : List ℕ) (shape : Shape n K lent) (not-two : n ≡ 2 → ⊥) where
   laid : Ready n K (freshBoard n K)
   laid = ready n K _ (fresh-held n K lent shape)
 
@@ -92,7 +92,7 @@ module _ (n K : ℕ) (lent : List ℕ) (shape : Shape n K lent) where
       let own : i - 1 < n = omega arith in
       let b : List ℕ = freshBoard n K in
       let taken : propose i v b .answer ≡ none =
-      proposes n K i low own v b fits laid (fresh-station n K (i - 1) own) in
+      proposes n K i low own v b laid not-two (fresh-station n K (i - 1) own) in
       let sim = propose-sim n K i v b fits laid taken in
       let same : (j : ℕ) → view n K (propose i v b .bytes) .register inM j ≡ empty = λ j. rw (sim .after) (fresh-m j) in
       fresh-terminates n K lent shape (call.proposing i v ∷ []) (fits, tt) .nobody-stepped
@@ -102,9 +102,10 @@ pub on-fresh : OnFresh
 unfolding OnFresh Fits
 on-fresh n K lent e =
     let s = laid-fresh n K lent e in
+    let not-two = laid-not-two n K lent e in
     subst (Single n K) (sym (s .1)) (record {
-      room = leaves-room _ (none-stepped n K _ (laid n K lent (s .0)) (fresh-m n K lent (s .0)));
-      decides = single n K lent (s .0);
+      room = leaves-room _ (none-stepped n K _ (laid n K lent (s .0) not-two) (fresh-m n K lent (s .0) not-two));
+      decides = single n K lent (s .0) not-two;
     })
 
 -- ---- every list

@@ -1,8 +1,8 @@
 -- The calls: for each, the refusals in 01's order, then the answer and the bytes afterwards, from what is lent and
 -- given.
 -- Relies on all definitions but the shown line; every public contract is an equation with one of these.
-use Rattle.model.specs.Kit.{Bool, true, false, _&&_, cond, List, [], _∷_, Option, none, some, ℕ, _+_, _-_, eqb}
-use Rattle.model.specs.Kit.{leb, length}
+use Rattle.model.specs.Kit.{Bool, true, false, not, _&&_, _||_, cond, List, [], _∷_, Option, none, some, ℕ, _+_}
+use Rattle.model.specs.Kit.{_-_, eqb, leb, length}
 use Rattle.model.specs.declared.Record.{Record}
 use Rattle.model.specs.Bytes.{byte, splice}
 use Rattle.model.specs.Figure.{Figure, figures}
@@ -32,9 +32,14 @@ pub record Ranges : Type 0 where
   pub stationsIn : ℕ → Bool
   pub islandsIn : ℕ → Bool
 
--- "n is not 1 to 16 (n and K as given when laying, else from the head)"; "K is not 2 to 64"
+-- From the head: "n is not 1 to 16"; "K is not 2 to 64". 02: "Saved boards of two stations still show and step as
+-- before".
 unfoldable pub ranges : Ranges
 ranges = record { stationsIn = λ n. leb 1 n && leb n 16; islandsIn = λ K. leb 2 K && leb K 64 }
+
+-- As given when laying. 02: "Laying now allows n = 1 or 3 to 16, else 8."
+unfoldable pub laidRanges : Ranges
+laidRanges = record { stationsIn = λ n. eqb n 1 || (leb 3 n && leb n 16); islandsIn = ranges .islandsIn }
 
 -- "7. The lent board is shorter than 8 bytes. 8. n is not 1 to 16. 9. K is not 2 to 64. 10. The board's length does not
 -- match n and K.", 8 and 9 for the ranges that are asked for
@@ -79,7 +84,7 @@ unlessRefused (some k) turnDown b ok = record { answer = turnDown k; bytes = b }
 
 -- "lays a fresh board"; "n and K as given when laying", soundness "not tested when laying"
 unfoldable pub lay : (n K : ℕ) → List ℕ → After Refusal
-lay n K b = unlessRefused (shapeRefusal ranges n K b none) some b (record { answer = none; bytes = freshBoard n K })
+lay n K b = unlessRefused (shapeRefusal laidRanges n K b none) some b (record { answer = none; bytes = freshBoard n K })
 
 -- The two ways in which an accepted call changes bytes: the record of station index j, and the one register written.
 unfoldable pub putRecord : (n K j : ℕ) → Record → List ℕ → List ℕ
@@ -88,6 +93,10 @@ putRecord n K j f b = splice (recordAt n K j) (layRecord f) b
 unfoldable pub putRegister : (n : ℕ) → Array → (j : ℕ) → Option (Register Figure) → List ℕ → List ℕ
 putRegister n a j none b = b
 putRegister n a j (some r) b = splice (registerAt n a j) (layRegister (registerFields r)) b
+
+-- 02: "It refuses between 12 and 13: 22, a proposal on a two-station board."
+unfoldable pub twoRefusal : List ℕ → Refusal → Refusal
+twoRefusal b later = unless (not (eqb (stations b) 2)) 22 later
 
 -- "13. The station that proposes is not idle."
 unfoldable pub notIdle : Station Figure → Refusal
@@ -98,11 +107,11 @@ notIdle (active v s) = some 13
 abbrev pub putProposal : (n K j : ℕ) → Figure → List ℕ → List ℕ
 putProposal n K j v b = putRecord n K j (recordFields (proposed v) (withCounts 0 0 (fieldsOf n K j b))) b
 
--- what a sound board refuses of a proposal of station number i: 12, then 13
+-- what a sound board refuses of a proposal of station number i: 12, then 22, then 13
 abbrev pub proposalRefusal : (i : ℕ) → List ℕ → Refusal
-proposalRefusal i b = stationRefusal i b (notIdle (stationAt i b))
+proposalRefusal i b = stationRefusal i b (twoRefusal b (notIdle (stationAt i b)))
 
--- "A proposal sets an idle station to phase 1", after the board's refusals, 12 and 13.
+-- "A proposal sets an idle station to phase 1", after the board's refusals, 12, 22 and 13.
 unfoldable pub propose : (i : ℕ) → Figure → List ℕ → After Refusal
 propose i v b =
     unlessRefused (boardRefusal b (proposalRefusal i b)) some b

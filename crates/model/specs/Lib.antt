@@ -27,5 +27,6 @@ pub mod SheetList
 pub mod StepCount
 pub mod FilledCount
 pub mod LeftRunning
+pub mod TwoStations
 pub mod FilledRuns
 pub mod Tape

@@ -32,7 +32,7 @@ eachOnce (i ∷ is) = not (names i is) && eachOnce is
 abbrev pub orLater : Refusal → Refusal → Refusal
 orLater r later = elim r [ none ↦ later | some k ↦ some k ]
 
--- "Then pairs are tried as written, 12 before 13 in each, and the first fault is answered."
+-- "Then pairs are tried as written, 12 before 13 in each, and the first fault is answered."; 22 "between 12 and 13"
 unfoldable pub firstFault : List Proposal → List ℕ → Refusal
 firstFault [] b = none
 firstFault (p ∷ ps) b = orLater (proposalRefusal (p .station) b) (firstFault ps b)

@@ -23,7 +23,7 @@ pub record Played : Type 0 where
 
 -- the highest number that a refusal has
 unfoldable pub lastRefusal : ℕ
-lastRefusal = 20
+lastRefusal = 22
 
 -- "A refused line prints `(refused N)`."
 unfoldable pub refusedText : (number : ℕ) → List ℕ

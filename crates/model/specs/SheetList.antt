@@ -72,11 +72,12 @@ SheetDemand3 =
     ≡ after (linesCalls ls (playBoard laid m n K)) (boardOf (playBoard laid m n K)))
     × Demand3 n K (boardOf (playBoard laid m n K)) (linesCalls ls (playBoard laid m n K))
 
--- ---- "The program lends boards that fit, so only library callers meet 7, 10 and 11."
+-- ---- "The program lends boards that fit, so only library callers meet 7, 10 and 11." Nor does it lay a board of two
+-- stations, so that 22 is theirs too.
 
 -- the refusals that only library callers meet
 unfoldable pub LibraryOnly : ℕ → Type 0
-LibraryOnly k = (k ≡ 7) ⊎ ((k ≡ 10) ⊎ (k ≡ 11))
+LibraryOnly k = (k ≡ 7) ⊎ ((k ≡ 10) ⊎ ((k ≡ 11) ⊎ (k ≡ 22)))
 
 unfoldable pub NotMet : (printed : List ℕ) → Type 0
 NotMet t = (k : ℕ) → LibraryOnly k → t ≡ refusedText k → ⊥

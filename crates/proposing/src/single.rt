@@ -20,6 +20,9 @@ use soundness::place::NO_STATION;
 use soundness::place::Place;
 use soundness::place::station_place;
 
+// The refusal of every proposal on a board of two stations, which may be stepped to its end but takes no figure.
+const TWO_STATIONS: u8 = 22;
+
 // The refusal of a station that has proposed.
 const NOT_IDLE: u8 = 13;
 
@@ -43,7 +46,7 @@ fn beginning(station: Record, figure: i32) -> Record
     next
 }
 
-// What a sound board refuses a station's proposal with, 12 or 13; 0 for a proposal that it takes.
+// What a sound board refuses a station's proposal with, 12, 22 or 13; 0 for a proposal that it takes.
 pub fn refusal_of(board: &[u8], station: u8) -> u8
     requires { ⌜ boardRefusal (now board) none ≡ none ⌝ }
     ensures { λ r. ⌜ numbered r ≡ proposalRefusal station (now (board .entry)) ⌝ }
@@ -51,6 +54,9 @@ pub fn refusal_of(board: &[u8], station: u8) -> u8
     let Place::At { index: _, at } = station_place(board, station) else {
         return NO_STATION;
     };
+    if board[0] == 2 {
+        return TWO_STATIONS;
+    }
     if board[at] != IDLE {
         return NOT_IDLE;
     }

@@ -1,10 +1,12 @@
-// The shape of a board: refusals 7 to 10 in checking order, the same where a board is laid and where one is tested.
+// The shape of a board: refusals 7 to 10, in one order where a board is laid and where one is tested, each with its ranges of n
+// and K.
 // Relies on the length of a board; laying and the board's test rely on it.
 ghost use mathlib.Core.Path.{_≡_};
 ghost use Rattle.model.specs.Calls.{ranges};
 ghost use Rattle.soundness.specs.Shaped.{Shaped};
 use codec::places::board_length;
 
+// Of a head, which may have two stations; a laying takes all of these but 2.
 pub fn stations_in_range(n: u8) -> bool
     ensures { λ r. ⌜ r ≡ ranges .stationsIn n ⌝ }
 {

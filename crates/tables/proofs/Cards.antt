@@ -21,10 +21,9 @@ use Rattle.model.specs.Sound.{bestInside, flagKnown, restZero, idleZero, collec
 use Rattle.model.specs.Sound.{seenKnown, sameRegister}
 use Rattle.model.specs.Sound.{ownWritten, ownSeen, ownPassed, turnsBefore, presentPass, islandOf, mostSteps}
 use Rattle.model.specs.Sound.{stepsKept, mostMet, metKept, fieldsSound, recordSound, sound}
-use Rattle.model.specs.Calls.{unless, ranges, shapeRefusal, stations, islands, boardRefusal, stationRefusal}
-use Rattle.model.specs.Calls.{stationAt, unlessRefused, lay, putRecord}
-use Rattle.model.specs.Calls.{putRegister, notIdle, propose, notGoing, access, stepped, stepOn, step, ranFrom}
-use Rattle.model.specs.Calls.{run}
+use Rattle.model.specs.Calls.{unless, ranges, laidRanges, shapeRefusal, stations, islands, boardRefusal}
+use Rattle.model.specs.Calls.{stationRefusal, stationAt, unlessRefused, lay, putRecord, putRegister, twoRefusal}
+use Rattle.model.specs.Calls.{notIdle, propose, notGoing, access, stepped, stepOn, step, ranFrom, run}
 use Rattle.model.specs.Runs.{after}
 use Rattle.tables.specs.Cards.{ShutOut, Row, AllDiffer, rows, movedBy, by, listing, ending, refusesAll}
 use Rattle.tables.specs.Cards.{leavesIdle}
@@ -73,5 +72,6 @@ unfolding ShutOut AllDiffer rows at same different taken movedBy by listing endi
     collectZero bestIslandZero bestZero seenKnown sameRegister ownWritten ownSeen ownPassed turnsBefore presentPass
     islandOf mostSteps stepsKept mostMet metKept filledIn metWith metKeptAt reported fieldsSound recordSound sound
     unless ranges shapeRefusal stations islands boardRefusal stationRefusal stationAt unlessRefused lay putRecord
-    putRegister notIdle propose notGoing access stepped stepOn step ranFrom run
-shut-out = (all-differ (8 ∷ 8 ∷ 60 ∷ 104 ∷ 88 ∷ 112 ∷ 112 ∷ 164 ∷ 178 ∷ 93 ∷ 93 ∷ []) rows tt, unlike taken _ _ refl)
+    putRegister notIdle propose notGoing access stepped stepOn step ranFrom run laidRanges twoRefusal
+shut-out =
+    (all-differ (8 ∷ 8 ∷ 60 ∷ 144 ∷ 128 ∷ 152 ∷ 152 ∷ 164 ∷ 178 ∷ 131 ∷ 133 ∷ []) rows tt, unlike taken _ _ refl)

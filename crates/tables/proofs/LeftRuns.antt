@@ -16,8 +16,8 @@ use Rattle.model.specs.Sound.{bestIslandZero, bestZero, seenKnown, sameRegister
 use Rattle.model.specs.Sound.{turnsBefore, presentPass, islandOf, mostSteps, stepsKept, mostMet, metKept, fieldsSound}
 use Rattle.model.specs.Sound.{recordSound, sound}
 use Rattle.model.specs.Calls.{unless, ranges, shapeRefusal, stations, islands, boardRefusal, stationRefusal, stationAt}
-use Rattle.model.specs.Calls.{unlessRefused, putRecord, putRegister, notIdle, propose, notGoing, access, stepped}
-use Rattle.model.specs.Calls.{stepOn, step}
+use Rattle.model.specs.Calls.{unlessRefused, putRecord, putRegister, twoRefusal, notIdle, propose, notGoing, access}
+use Rattle.model.specs.Calls.{stepped, stepOn, step}
 use Rattle.model.specs.Runs.{after}
 use Rattle.model.specs.FilledRuns.{proposedFrom}
 use Rattle.model.specs.Listing.{inM, outcome, onward}
@@ -35,7 +35,7 @@ unfolding stale RoomAbove UpTo until ends outcome onward proposedFrom after numb
     positionInside islandInside bestInside flagKnown restZero idleZero collectZero bestIslandZero bestZero seenKnown
     sameRegister ownWritten ownSeen ownPassed turnsBefore presentPass islandOf mostSteps stepsKept mostMet metKept
     fieldsSound recordSound sound unless ranges shapeRefusal stations islands boardRefusal stationRefusal stationAt
-    unlessRefused putRecord putRegister notIdle propose notGoing access stepped stepOn step
+    unlessRefused putRecord putRegister twoRefusal notIdle propose notGoing access stepped stepOn step
 left-runs = record {
   room = λ j l. go j l;
   two-passes = refl;

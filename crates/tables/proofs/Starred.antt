@@ -1,7 +1,7 @@
 -- The starred runs: each row of the table by computing both sides.
 -- Relies on the definitions alone.
 use Rattle.model.proofs.Kit.{refl}
-use Rattle.tables.specs.Starred.{Starred, Holds, rise, rows, sheet, asLines, layIn}
+use Rattle.tables.specs.Starred.{Starred, Holds, rise, rows, edges, sheet, onSaved, asLines, layIn}
 use Rattle.model.specs.Bytes.{number, digits, part, splice, zeros, every, count, names, implies, onFirst, endedBy}
 use Rattle.model.specs.Figure.{figure, figureBytes, sameFigure, above, figures}
 use Rattle.model.specs.Listing.{array, placeArray, placeColumn, accepted, outcome, entry, proposed, stay, onward}
@@ -18,10 +18,10 @@ use Rattle.model.specs.Sound.{bestInside, flagKnown, restZero, idleZero, collec
 use Rattle.model.specs.Sound.{seenKnown, sameRegister}
 use Rattle.model.specs.Sound.{ownWritten, ownSeen, ownPassed, turnsBefore, presentPass, islandOf, mostSteps}
 use Rattle.model.specs.Sound.{stepsKept, mostMet, metKept, fieldsSound, recordSound, sound}
-use Rattle.model.specs.Calls.{unless, ranges, shapeRefusal, stations, islands, boardRefusal, stationRefusal}
-use Rattle.model.specs.Calls.{stationAt, unlessRefused, lay, putRecord}
-use Rattle.model.specs.Calls.{putRegister, notIdle, propose, notGoing, access, stepped, stepOn, step, ranFrom}
-use Rattle.model.specs.Calls.{run}
+use Rattle.model.specs.Calls.{unless, ranges, laidRanges, shapeRefusal, stations, islands, boardRefusal}
+use Rattle.model.specs.Calls.{stationRefusal, stationAt, unlessRefused, lay, putRecord}
+use Rattle.model.specs.Calls.{putRegister, twoRefusal, notIdle, propose, notGoing, access, stepped, stepOn, step}
+use Rattle.model.specs.Calls.{ranFrom, run}
 use Rattle.model.specs.Rounds.{inTurn, roundSteps, roundsSteps, settled, allSettled, rising, roundKnown}
 use Rattle.model.specs.Rounds.{roundsKnown, roundsRefusal, standsDecided, decidedOn, playedTo, rounds}
 use Rattle.model.specs.Proposals.{named, eachOnce, firstFault, pairsRefusal, proposalsRefusal, oneByOne}
@@ -38,24 +38,28 @@ use Rattle.model.specs.Forms.{upToStop, firstWord, wordPlace, formIn, one, tooD
 use Rattle.model.specs.Sheet.{refusedText, orRefused, laidText, proposedText, ranText, playedText, shownText}
 use Rattle.model.specs.Sheet.{togetherText, turnedDown}
 use Rattle.model.specs.Sheet.{playBoard, onBoard, playForm, playReading, playLine, printed, playSheet}
+use Rattle.model.specs.TwoStations.{start}
 
 pub starred : Starred
-unfolding Starred Holds rise rows sheet asLines layIn number digits part splice zeros every implies figure figureBytes
-    sameFigure above figures array placeArray placeColumn accepted entry proposed stay onward finish ended larger
-    pairAbove add see move flagOf flagNumber boardLength rowOf registerAt recordAt freshBoard readRegister layRegister
-    registerFields registerValue seenNumber bestIsland bestFigure seenOf writePhase flagByte readRecord layRecord
-    fields recordFields changed recordValue writingOf readingOf ofPhase registerOf recordOf stationOf headSound
-    registerSound arraySound registersSound collecting phaseKnown positionInside islandInside bestInside flagKnown
-    restZero idleZero collectZero bestIslandZero bestZero seenKnown sameRegister ownWritten ownSeen ownPassed
-    turnsBefore presentPass islandOf mostSteps stepsKept mostMet metKept filledIn metWith metKeptAt reported
-    fieldsSound recordSound sound unless shapeRefusal stations islands boardRefusal stationRefusal stationAt
-    unlessRefused lay putRecord putRegister notIdle propose notGoing access stepped stepOn step ranFrom run textFrom
-    text decimalIn decimal signed worded standingText standingOf status statuses shownLine shownAs show repeated
-    expandItem expand found andThen spaced digit digitsFrom natural numberIn figureIn behind timesIn itemIn itemsIn
-    same closing wordRows boardRow proposeRow stepsRow showRow roundsRow rowIn upToStop firstWord wordPlace formIn one
-    tooDeep orFour readLine refusedText orRefused laidText proposedText ranText shownText turnedDown playBoard onBoard
-    playForm playReading playLine onFirst endedBy printed playSheet outcome ranges count listIn stationsIn roundIn
-    roundsIn names inTurn roundSteps roundsSteps settled allSettled rising roundKnown roundsKnown roundsRefusal
-    standsDecided decidedOn playedTo rounds playedText pairIn pairsIn singleIn togetherIn named eachOnce firstFault
-    pairsRefusal proposalsRefusal oneByOne proposeAll togetherText
-starred = (refl, (refl, (refl, (refl, (refl, (refl, (refl, (refl, (refl, (refl, (refl, (refl, (refl, tt)))))))))))))
+unfolding Starred Holds rise rows edges sheet asLines layIn number digits part splice zeros every implies figure
+    figureBytes sameFigure above figures array placeArray placeColumn accepted entry proposed stay onward finish ended
+    larger pairAbove add see move flagOf flagNumber boardLength rowOf registerAt recordAt freshBoard readRegister
+    layRegister registerFields registerValue seenNumber bestIsland bestFigure seenOf writePhase flagByte readRecord
+    layRecord fields recordFields changed recordValue writingOf readingOf ofPhase registerOf recordOf stationOf
+    headSound registerSound arraySound registersSound collecting phaseKnown positionInside islandInside bestInside
+    flagKnown restZero idleZero collectZero bestIslandZero bestZero seenKnown sameRegister ownWritten ownSeen ownPassed
+    turnsBefore presentPass islandOf mostSteps stepsKept mostMet metKept filledIn metWith metKeptAt reported fieldsSound
+    recordSound sound unless shapeRefusal stations islands boardRefusal stationRefusal stationAt unlessRefused lay
+    putRecord putRegister notIdle propose notGoing access stepped stepOn step ranFrom run textFrom text decimalIn
+    decimal signed worded standingText standingOf status statuses shownLine shownAs show repeated expandItem expand
+    found andThen spaced digit digitsFrom natural numberIn figureIn behind timesIn itemIn itemsIn same closing wordRows
+    boardRow proposeRow stepsRow showRow roundsRow rowIn upToStop firstWord wordPlace formIn one tooDeep orFour readLine
+    refusedText orRefused laidText proposedText ranText shownText turnedDown playBoard onBoard playForm playReading
+    playLine onFirst endedBy printed playSheet outcome ranges count listIn stationsIn roundIn roundsIn names inTurn
+    roundSteps roundsSteps settled allSettled rising roundKnown roundsKnown roundsRefusal standsDecided decidedOn
+    playedTo rounds playedText pairIn pairsIn singleIn togetherIn named eachOnce firstFault pairsRefusal
+    proposalsRefusal oneByOne proposeAll togetherText onSaved start laidRanges twoRefusal
+starred = (
+  (refl, (refl, (refl, (refl, (refl, (refl, (refl, (refl, (refl, (refl, tt)))))))))),
+  (refl, (refl, (refl, (refl, (refl, (refl, (refl, tt))))))),
+)

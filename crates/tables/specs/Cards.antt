@@ -166,11 +166,11 @@ rows =
     -- the sixth step of a station alone decides
     ∷ record { card = by (ending zeroAt); station = 1; board = boardAfter 1 2 (pos 9 ∷ []) (replicate 5 1) }
     -- both have written m, and station 1 reads its own register first
-    ∷ record { card = by wholeAtFirst; station = 1; board = boardAfter 2 2 (pos 3 ∷ pos 7 ∷ []) (1 ∷ 2 ∷ []) }
-    ∷ record { card = by wholeInOne; station = 1; board = boardAfter 2 2 (pos 3 ∷ pos 7 ∷ []) (1 ∷ 2 ∷ []) }
+    ∷ record { card = by wholeAtFirst; station = 1; board = boardAfter 3 2 (pos 3 ∷ pos 7 ∷ []) (1 ∷ 2 ∷ []) }
+    ∷ record { card = by wholeInOne; station = 1; board = boardAfter 3 2 (pos 3 ∷ pos 7 ∷ []) (1 ∷ 2 ∷ []) }
     -- station 2 has written a commit of 3 to B, and reads it beside an adopt of 7
-    ∷ record { card = by (ending spentAt); station = 2; board = boardAfter 2 2 (pos 7 ∷ pos 3 ∷ []) besideAdopt }
-    ∷ record { card = by (ending presentAt); station = 2; board = boardAfter 2 2 (pos 7 ∷ pos 3 ∷ []) besideAdopt }
+    ∷ record { card = by (ending spentAt); station = 2; board = boardAfter 3 2 (pos 7 ∷ pos 3 ∷ []) besideAdopt }
+    ∷ record { card = by (ending presentAt); station = 2; board = boardAfter 3 2 (pos 7 ∷ pos 3 ∷ []) besideAdopt }
     -- station 1 has decided 4, and station 2 with 15 meets its commit in B
     ∷ record {
       card = by (ending oldAt);
@@ -184,17 +184,17 @@ rows =
       board = boardAfter 3 2 (pos 4 ∷ pos 15 ∷ pos 5 ∷ []) (replicate 12 1 ++ replicate 13 2 ++ replicate 3 3);
     }
     -- station 1 alone reads a register of A that nobody has written
-    ∷ record { card = by emptiesCounted; station = 1; board = boardAfter 2 2 (pos 7 ∷ pos 3 ∷ []) (replicate 5 1) }
+    ∷ record { card = by emptiesCounted; station = 1; board = boardAfter 3 2 (pos 7 ∷ pos 3 ∷ []) (replicate 6 1) }
     -- station 1 with 7 reads 3 beside it in A
     ∷ record {
       card = by (ending ownLargestAt);
       station = 1;
-      board = boardAfter 2 2 (pos 7 ∷ pos 3 ∷ []) (replicate 3 2 ++ replicate 3 1 ++ (2 ∷ 1 ∷ 1 ∷ []));
+      board = boardAfter 3 2 (pos 7 ∷ pos 3 ∷ []) (replicate 4 2 ++ replicate 4 1 ++ (2 ∷ 1 ∷ 1 ∷ 1 ∷ []));
     }
     ∷ []
   where
     besideAdopt : List ℕ
-    besideAdopt = replicate 3 2 ++ replicate 3 1 ++ replicate 3 2 ++ replicate 6 1 ++ replicate 2 2
+    besideAdopt = replicate 4 2 ++ replicate 4 1 ++ replicate 4 2 ++ replicate 8 1 ++ replicate 3 2
 
 unfoldable pub AllDiffer : List Row → Type 0
 AllDiffer [] = Unit {0}

@@ -1,12 +1,16 @@
 -- The starred runs of 01 as one table: a row is what the definitions give and what 01 says they give.
--- Relies on the sheet, the laying and the order; proofs/Starred.antt proves the one statement `Starred`.
+-- Relies on the sheet, the laying, the order and the saved boards of two stations; proofs/Starred.antt proves the one
+-- statement `Starred`.
 use Rattle.model.specs.Kit.{Bool, true, _&&_, List, [], _∷_, _++_, none, some, ℕ, length, replicate, pos, negsuc}
 use mathlib.Core.Path.{_≡_}
+use mathlib.Core.List.{map}
 use Prim.Native.String.{String}
 use Rattle.model.specs.Figure.{Figure, figure, above}
 use Rattle.model.specs.Calls.{After, Refusal, lay}
+use Rattle.model.specs.Layout.{freshBoard}
 use Rattle.model.specs.Show.{text}
-use Rattle.model.specs.Sheet.{playSheet}
+use Rattle.model.specs.Sheet.{printed, playSheet}
+use Rattle.model.specs.TwoStations.{start}
 
 -- What a sheet prints; an answer to a laying; a comparison.
 pub data Outcome : Type 0 where
@@ -34,12 +38,17 @@ pub record Row : Type 0 where
 unfoldable pub sheet : (lines printed : List String) → Row
 sheet lines printed = record { gives = prints (playSheet (asLines lines)); says = prints (asLines printed) }
 
+-- the same lines on a board that was saved and is lent
+unfoldable pub onSaved : (board : List ℕ) (lines says : List String) → Row
+onSaved b lines says = record { gives = prints (printed (length b) b (map text lines)); says = prints (asLines says) }
+
 -- each figure is above the one before it
 unfoldable pub rise : List Figure → Bool
 rise [] = true
 rise (x ∷ []) = true
 rise (x ∷ y ∷ ys) = above y x && rise (y ∷ ys)
 
+-- runs, as the lines of a sheet or on a lent board
 unfoldable pub rows : List Row
 rows =
     -- "This sheet, given to the program .. prints", and of 02: "the sixth answer becomes `(ran 12 12)` and the seventh
@@ -54,12 +63,11 @@ rows =
     ∷ "(ran 12 12)" ∷ "(stations (1 decided 0 -40) (2 decided 0 -40) (3 idle))" ∷ "(ran 0 4)" ∷ []
     )
     -- "n = 2, K = 2, proposals 7 and 3: `(steps (times 2 (times 3 2) (times 3 1) (times 3 2) (times 6 1) (times 3 2)))`
-    -- gives `(ran 36 0)`, then `(1 spent 1 7) (2 spent 1 3)`."
-    ∷ sheet (
-    "(board 2 2)" ∷ "(propose 1 7)" ∷ "(propose 2 3)"
-    ∷ "(steps (times 2 (times 3 2) (times 3 1) (times 3 2) (times 6 1) (times 3 2)))" ∷ "(show)" ∷ []
-    ) ("(laid 2 2)" ∷ "(proposed 1 7)" ∷ "(proposed 2 3)" ∷ "(ran 36 0)" ∷ "(stations (1 spent 1 7) (2 spent 1 3))"
-    ∷ [])
+    -- gives `(ran 36 0)`, then `(1 spent 1 7) (2 spent 1 3)`.", and of 02: "that run stays as a case on such a board,
+    -- fresh but for the two proposals"
+    ∷ onSaved (start 2 (pos 7) (pos 3)) (
+    "(steps (times 2 (times 3 2) (times 3 1) (times 3 2) (times 6 1) (times 3 2)))" ∷ "(show)" ∷ []
+    ) ("(ran 36 0)" ∷ "(stations (1 spent 1 7) (2 spent 1 3))" ∷ [])
     -- "n = 3, K = 2, all propose 5: `(steps (times 12 1 2 3))` gives `(ran 36 0)`, and all have decided 5 on island 0."
     ∷ sheet ("(board 3 2)" ∷ "(propose 1 5)" ∷ "(propose 2 5)" ∷ "(propose 3 5)" ∷ "(steps (times 12 1 2 3))" ∷ "(show)"
     ∷ []) (
@@ -103,11 +111,38 @@ rows =
     ∷ "(refused 19)" ∷ "(ran 1 0)" ∷ "(refused 18)" ∷ "(ran 3 0)" ∷ "(played 2 1)" ∷ "(played 3 2)"
     ∷ "(stations (1 decided 0 3) (2 decided 1 3) (3 idle))" ∷ []
     )
+    -- not starred: on a board of two stations a proposal is 12 or 22, whether the station is idle or not, and with
+    -- pairs 20 comes before both; the board steps and shows as any other
+    ∷ onSaved (start 2 (pos 7) (pos 3)) (
+    "(propose 0 1)" ∷ "(propose 3 1)" ∷ "(propose 1 1)" ∷ "(propose (3 1) (3 1))" ∷ "(propose (2 1) (3 1))"
+    ∷ "(propose (3 1) (2 1))" ∷ "(show)" ∷ "(rounds 1 (2))" ∷ "(steps (times 6 1) (times 9 2))" ∷ "(show)" ∷ []
+    ) (
+    "(refused 12)" ∷ "(refused 12)" ∷ "(refused 22)" ∷ "(refused 20)" ∷ "(refused 22)" ∷ "(refused 12)"
+    ∷ "(stations (1 going 0 7) (2 going 0 3))" ∷ "(played 1 0)" ∷ "(ran 15 0)"
+    ∷ "(stations (1 decided 0 7) (2 decided 0 7))" ∷ []
+    )
+    ∷ onSaved (freshBoard 2 2) ("(propose 1 1)" ∷ "(propose (2 1))" ∷ "(propose 3 1)" ∷ "(show)" ∷ []) (
+    "(refused 22)" ∷ "(refused 22)" ∷ "(refused 12)" ∷ "(stations (1 idle) (2 idle))" ∷ []
+    )
+    -- 02: "Laying now allows n = 1 or 3 to 16, else 8.", which comes before 9; the board that was laid stays
+    ∷ sheet (
+    "(board 2 2)" ∷ "(board 2 1)" ∷ "(show)" ∷ "(board 1 2)" ∷ "(board 2 64)" ∷ "(show)" ∷ "(board 3 2)" ∷ "(show)" ∷ []
+    ) (
+    "(refused 8)" ∷ "(refused 8)" ∷ "(refused 5)" ∷ "(laid 1 2)" ∷ "(refused 8)" ∷ "(stations (1 idle))" ∷ "(laid 3 2)"
+    ∷ "(stations (1 idle) (2 idle) (3 idle))" ∷ []
+    )
+    ∷ []
+
+-- layings and comparisons at the edges
+unfoldable pub edges : List Row
+edges =
     -- "n = 16, K = 64 laid in 16,904 bytes; in 16,903 gives 10. n = 17 gives 8. K = 1 gives 9."
-    ∷ record { gives = layIn 16904 16 64; says = laid 16904 }
+    record { gives = layIn 16904 16 64; says = laid 16904 }
     ∷ record { gives = layIn 16903 16 64; says = turnedDown 10 }
     ∷ record { gives = layIn 16904 17 64; says = turnedDown 8 }
     ∷ record { gives = layIn 72 1 1; says = turnedDown 9 }
+    -- not starred: two stations in the bytes of such a board
+    ∷ record { gives = layIn 136 2 2; says = turnedDown 8 }
     -- "−2,147,483,648 is above 2,147,483,647", each from its bytes in two's complement
     ∷ record {
       gives = compared (above (figure (0 ∷ 0 ∷ 0 ∷ 128 ∷ [])) (figure (255 ∷ 255 ∷ 255 ∷ 127 ∷ [])));
@@ -123,4 +158,4 @@ Holds (r ∷ rs) = (r .gives ≡ r .says) × Holds rs
 
 -- Every row holds.
 unfoldable pub Starred : Type 0
-Starred = Holds rows
+Starred = Holds rows × Holds edges

@@ -1,14 +1,24 @@
 -- Laying: the answer and bytes at each return.
 -- Relies on the model's refusals and on what the shape's function promises; the proof of `lay` relies on it.
-use Rattle.model.proofs.Kit.{_≡_, refl, sym, ap, _∙_, Bool, List, _∷_, none, some, ℕ, suc, _-_, _<_, length, replicate}
-use Rattle.model.proofs.Kit.{set, length-replicate, length-set, arith}
+use Rattle.model.proofs.Kit.{_≡_, refl, sym, ap, _∙_, Bool, false, List, _∷_, none, some, ℕ, suc, _-_, _<_}
+use Rattle.model.proofs.Kit.{length, replicate, set, length-replicate, length-set, arith}
 use Rattle.model.specs.declared.Verdict.the-variants.{Accepted, Refused}
 use Rattle.model.specs.Layout.{boardLength, freshBoard}
-use Rattle.model.specs.Calls.{Refusal, ranges, shapeRefusal, unlessRefused, lay}
+use Rattle.model.specs.Calls.{Refusal, ranges, laidRanges, shapeRefusal, unlessRefused, lay}
 use Rattle.model.specs.Told.{verdict}
-use Rattle.model.proofs.Calls.Refusals.{Shape, inside-itself, shape-of}
+use Rattle.model.proofs.Calls.Refusals.{Shape, inside-laid, shape-of, two-not-laid, others-laid}
 use Rattle.soundness.specs.Shaped.{numbered, Shaped}
 use Rattle.soundness.proofs.Laws.Verdicts.{refused-by, passed-by}
+
+-- ---- n that can be laid
+
+pub two-stations : (n : ℕ) → n ≡ 2 → false ≡ laidRanges .stationsIn n
+two-stations n e = sym (two-not-laid n e)
+
+pub other-number : (n : ℕ) → (n ≡ 2 → ⊥) → (r : Bool) → r ≡ ranges .stationsIn n → r ≡ laidRanges .stationsIn n
+other-number n f r e = e ∙ sym (others-laid n f)
+
+-- ---- the bytes
 
 -- a cleared board with n and K in front
 two-set : (n K m : ℕ) → set (set (replicate (suc (suc m)) 0) 0 n) 1 K ≡ n ∷ K ∷ replicate m 0
@@ -22,11 +32,11 @@ fresh-set n K m e =
     long : boardLength n K ≡ suc (suc (boardLength n K - 2))
     long = omega arith
 
-module _ (n K : ℕ) (b : List ℕ) (s i : Bool) (es : s ≡ ranges .stationsIn n) (ei : i ≡ ranges .islandsIn K) (r : ℕ)
-    (sh : Shaped n K s i b r) where
-  said : numbered r ≡ shapeRefusal ranges n K b none
-  unfolding Shaped
-  said = sh ranges es ei
+module _ (n K : ℕ) (b : List ℕ) (s i : Bool) (es : s ≡ laidRanges .stationsIn n) (ei : i ≡ ranges .islandsIn K)
+    (r : ℕ) (sh : Shaped n K s i b r) where
+  said : numbered r ≡ shapeRefusal laidRanges n K b none
+  unfolding Shaped laidRanges
+  said = sh laidRanges es ei
 
   by-shape : (q : Refusal) → numbered r ≡ q
       → (q ≡ lay n K b .answer)
@@ -56,7 +66,7 @@ module _ (n K : ℕ) (b : List ℕ) (s i : Bool) (es : s ≡ ranges .stationsIn 
 
   module _ (e : r ≡ 0) (c : List ℕ) (ec : c ≡ replicate (length b) 0) where
     shape : Shape n K b
-    shape = shape-of n K b ranges inside-itself none (sym said ∙ passed-by r e) .0
+    shape = shape-of n K b laidRanges inside-laid none (sym said ∙ passed-by r e) .0
 
     pub first-byte : 0 < length c
     first-byte = omega (arith, ap length ec ∙ length-replicate (length b) 0, shape .long)

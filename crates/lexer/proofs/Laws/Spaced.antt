@@ -1,6 +1,6 @@
 -- A number and a figure behind a single space, and what a reading that was taken apart says of the bytes.
--- Relies on Places, Answers and the model's `spaced` and `figureIn`; the proofs of src/number.rt, and of items and
--- forms above, rely on it.
+-- Relies on Places, Answers and the model's `spaced` and `figureIn`; the proofs of src/number.rt, and those of the
+-- readers above, rely on it.
 use Rattle.model.proofs.Kit.{_≡_, sym, ap, subst, _∙_, List, none, Option, ℕ, suc, _+_, _-_, _≤_, _<_, eq-eqb, ne-eqb}
 use Rattle.model.proofs.Kit.{ℤ, pos, negsuc, length, drop, drop-of-length-le, getD, drop-drop, w8, w32, toZ, Fits}
 use Rattle.model.proofs.Kit.{SFits, arith}

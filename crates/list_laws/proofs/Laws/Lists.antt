@@ -1,7 +1,6 @@
 -- A list of things of one kind, read in a loop: the things read so far and those still to come are the list that the
 -- model's reader finds, and what each way out of the loop answers of it.
--- Relies on the lexer's Places, Spaced and Given and the model's `listIn`; the laws of rounds
--- and pairs rely on it.
+-- Relies on the lexer's Places, Spaced and Given and the model's `listIn`; the laws of rounds and pairs rely on it.
 use Rattle.model.proofs.Kit.{_≡_, refl, sym, ap, _∙_, List, [], _∷_, _++_, append-assoc, append-nil, none, some, Option}
 use Rattle.model.proofs.Kit.{ℕ, zero, suc, _+_, _≤_, _<_, eq-eqb, ne-eqb, length, drop, getD, length-append, arith}
 use lib.ListN.{List·getD-eq-default}

@@ -19,7 +19,7 @@ use Rattle.model.proofs.Bridge.Lists.{Held, Change, same, takes, moves}
 unfoldable pub mOf : (n K j : ℕ) → List ℕ → Register Figure
 mOf n K j b = view n K b .register inM j
 
-m-of : {st : State Figure} (n K j : ℕ) (b : List ℕ) → view n K b ≡ st → mOf n K j b ≡ st .register inM j
+pub m-of : {st : State Figure} (n K j : ℕ) (b : List ℕ) → view n K b ≡ st → mOf n K j b ≡ st .register inM j
 unfolding mOf
 m-of n K j b e = ap (λ (s : State Figure). s .register inM j) e
 
@@ -41,7 +41,7 @@ module _ (n K : ℕ) (b d : List ℕ) (i : ℕ) (z : Station Figure) (g : Array 
   pub own-put : i < n → stationOf n K i d ≡ z
   own-put h = sym (view-station n K d i h) ∙ rw e (put-same i z _)
 
-  other-put : (j : ℕ) → j < n → (i ≡ j → ⊥) → stationOf n K j d ≡ stationOf n K j b
+  pub other-put : (j : ℕ) → j < n → (i ≡ j → ⊥) → stationOf n K j d ≡ stationOf n K j b
   other-put j h f = sym (view-station n K d j h) ∙ rw e (put-other i z _ j f) ∙ view-station n K b j h
 
 -- where an accepted step of station number i leaves it

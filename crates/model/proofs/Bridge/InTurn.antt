@@ -46,7 +46,8 @@ distinct n (s ∷ ss) p o =
     let number : suc (s .station - 1) ≡ s .station = omega (arith, p .0 .positive) in
     (not-among n ss (p .1) (s .station - 1) (rw number (o .0)), distinct n ss (p .1) (o .1))
 
-module _ (n K fuel : ℕ) where
+-- where a proposal is taken: the board is not of two stations
+module _ (n K fuel : ℕ) (not-two : n ≡ 2 → ⊥) where
   -- the turn on the state that a board stands for
   abbrev on-state : Seat → List ℕ → Ended Figure
   on-state s b = values.turn figures n K fuel (s .station - 1) (s .figure) (view n K b)
@@ -57,7 +58,7 @@ module _ (n K fuel : ℕ) where
   unfolding turn values.turn
   turn-sim s p b r e =
       let rests = sym (view-station n K b (s .station - 1) (p .own)) ∙ e in
-      let taken = proposes n K (s .station) (p .positive) (p .own) (s .figure) b (p .fits) r rests in
+      let taken = proposes n K (s .station) (p .positive) (p .own) (s .figure) b r not-two rests in
       rw (← propose-sim n K (s .station) (s .figure) b (p .fits) r taken .after)
       (until-sim n K (s .station) (p .positive) (p .own) fuel _ (propose-ready n K _ _ b (p .fits) r))
 

@@ -22,10 +22,10 @@ use Rattle.model.proofs.Listing.Written.{read-writes}
 use Rattle.model.proofs.Calls.Access.{write-bytes, read-bytes}
 use Rattle.model.proofs.Listing.Going.{Going}
 use Rattle.model.proofs.Calls.StepKeeps.{entry-fits}
-use Rattle.model.proofs.Calls.CallsKeep.{idle-of, going-of, proposed-fits, good-stage, station-of-fits}
+use Rattle.model.proofs.Calls.CallsKeep.{going-of, proposed-fits, good-stage, station-of-fits}
 use Rattle.model.proofs.Calls.CallsKeep.{propose-keeps, propose-head, step-keeps, step-head}
 use Rattle.model.proofs.Calls.Refusals.{some-none, Board, board-of, OnBoard, station-of, index-inside, call-case}
-use Rattle.model.proofs.Calls.Refusals.{step-on}
+use Rattle.model.proofs.Calls.Refusals.{may-propose, step-on}
 use Rattle.model.proofs.Calls.Accepted.{stepOn-access}
 use Rattle.model.proofs.Agreement.State.{putWritten, proposing, moveOf, moving}
 use Rattle.model.proofs.Bridge.View.{view, view-register, view-put-station, view-put-register}
@@ -100,12 +100,12 @@ unfolding propose stationAt proposing
 propose-sim n K i v b fits r a =
     by-head (λ m L. ProposeSim m L i v b (propose i v b .bytes)) r
     (call-case (λ d. d .answer ≡ none → ProposeSim (stations b) (islands b) i v b (d .bytes)) _ some b _
-    (λ e f. let s = station-of i b _ (board-of b _ e .1) in
-    let own = index-inside i b (s .0) in
+    (λ e f. let m = may-propose i b (board-of b _ e .1) in
+    let own = index-inside i b (m .on) in
     record {
-      positive = s .0 .low;
+      positive = m .on .low;
       own = own;
-      rests = idle-of (stationAt i b) (s .1);
+      rests = m .rests;
       after = view-put-station _ _ b (r .board .sound-board .len) (i - 1) own (proposed v) _ (proposed-fits v fits);
     })
     (λ k e f. some-none k f) a)

@@ -1,17 +1,17 @@
 -- A station's turn on bytes is its turn on the state: the proposal, and steps until it decides.
 -- Relies on Single and the sequential run's definitions; the order that demand 3 asks for relies on it.
-use Rattle.model.proofs.Kit.{_≡_, refl, Bool, true, false, cond, List, none, ℕ, zero, suc, _-_, _≤_, _<_}
+use Rattle.model.proofs.Kit.{_≡_, refl, ap, Bool, true, false, cond, List, none, ℕ, zero, suc, _-_, _≤_, _<_}
 use Rattle.model.specs.Figure.{Figure, figures}
 use Rattle.model.specs.Listing.{Stage, writing, reading, has-decided, is-spent, Station, idle, active, Answer}
 use Rattle.model.specs.Listing.{decided, refused, outcome, move, stay}
 use Rattle.model.specs.Filled.{Report}
 use Rattle.model.specs.Layout.{stationOf}
-use Rattle.model.specs.Calls.{After, stationAt, unlessRefused, notIdle, propose, step}
+use Rattle.model.specs.Calls.{After, Refusal, stationAt, propose, step}
 use Rattle.model.specs.AnyList.{ends, until}
 use Rattle.model.proofs.Basics.Tests.{impossible}
-use Rattle.model.proofs.Board.Codec.{Fits}
 use Rattle.model.proofs.Listing.Going.{Going}
-use Rattle.model.proofs.Calls.Refusals.{board-passes, station-passes}
+use Rattle.model.proofs.Calls.Refusals.{proposal-passes}
+use Rattle.model.proofs.Calls.Proposals.{accepts}
 use Rattle.model.proofs.Agreement.State.{State, moveOf}
 use Rattle.model.proofs.Sequential.Turns.{Ended, goOn, stepOnce, stepUntil}
 use Rattle.model.proofs.Bridge.View.{view, view-station}
@@ -32,12 +32,16 @@ choose n K true d f g h a x y e = x
 choose n K false d f g h a x y e = y e
 
 module _ (n K : ℕ) (i : ℕ) (positive : 1 ≤ i) (own : i - 1 < n) where
-  -- an idle station's proposal is taken
-  pub proposes : (v : Figure) (b : List ℕ) → Fits v → Ready n K b → stationOf n K (i - 1) b ≡ idle
+  -- an idle station's proposal is taken, if the board is not of two stations
+  pub proposes : (v : Figure) (b : List ℕ) → Ready n K b → (n ≡ 2 → ⊥) → stationOf n K (i - 1) b ≡ idle
       → propose i v b .answer ≡ none
-  unfolding propose stationAt unlessRefused notIdle
-  proposes v b fits r e =
-      rw (board-passes b (r .board), station-passes i b (on-board n K i b r positive own), r .isN, r .isK, e)
+  unfolding stationAt
+  proposes v b r not-two e =
+      ap (λ (a : After Refusal). a .answer) (accepts i v b (r .board) (proposal-passes i b (record {
+        on = on-board n K i b r positive own;
+        not-two = rw (r .isN) not-two;
+        rests = rw (r .isN, r .isK) e;
+      })))
 
   -- what is to be shown of a run from the board b that ended so on the state
   abbrev Follows : ℕ → Ended Figure → List ℕ → Type 0

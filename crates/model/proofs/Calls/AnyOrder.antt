@@ -13,9 +13,9 @@ use Rattle.model.specs.Proposals.{Proposal, AllFit, oneByOne, proposeAll
 use Rattle.model.specs.AnyOrder.{AllAccepted, AnyOrder}
 use Rattle.model.proofs.Board.Codec.{Fits}
 use Rattle.model.proofs.Board.Boards.{records-commute}
-use Rattle.model.proofs.Calls.Refusals.{Board, board-of, index-inside}
+use Rattle.model.proofs.Calls.Refusals.{Board, board-of, may-propose, index-inside}
 use Rattle.model.proofs.Calls.CallsKeep.{propose-keeps}
-use Rattle.model.proofs.Calls.Proposals.{Free, free-of, accepted-of, accepts, same-stations, same-islands}
+use Rattle.model.proofs.Calls.Proposals.{Free, accepted-of, accepts, same-stations, same-islands}
 use Rattle.model.proofs.Calls.Proposals.{other-record, free-stays, free-back, free-no-more, passed-of, of-passed}
 use Rattle.model.proofs.Calls.Proposals.{all-accepted, accepted-passed, together-passes, together-is}
 
@@ -42,15 +42,15 @@ module _ (i j : ℕ) (v w : Figure) (b : List ℕ) (h : Board b) (ne : i ≡ j �
       (accepts j w (propose i v b .bytes) (propose-keeps i v fits b h) (free-stays i v b h fi j e fj))
       ∙ rw (same-stations i v b h fi, same-islands i v b h fi)
       ((λ k. putRecord (stations b) (islands b) (j - 1)
-      (recordFields (proposed w) (withCounts 0 0 (readRecord (other-record i v b h fi j e (free-of j b fj .0) k))))
+      (recordFields (proposed w) (withCounts 0 0 (readRecord (other-record i v b h fi j e (may-propose j b fj .on) k))))
       (accepts i v b h fi k .bytes)))
 
 pub commute : (i j : ℕ) (v w : Figure) (b : List ℕ) → Board b → (i ≡ j → ⊥) → Free b i → Free b j → Fits v → Fits w
     → propose j w (propose i v b .bytes) .bytes ≡ propose i v (propose j w b .bytes) .bytes
 unfolding n K
 commute i j v w b h ne fi fj fv fw =
-    let on-i = free-of i b fi .0 in
-    let on-j = free-of j b fj .0 in
+    let on-i = may-propose i b fi .on in
+    let on-j = may-propose j b fj .on in
     second i j v w b h ne fi fj fv
     ∙ records-commute _ _ b (h .sound-board .len) (i - 1) (j - 1) (index-inside i b on-i) (index-inside j b on-j)
     (λ e. ne (omega (arith, on-i .low, on-j .low))) _ _

@@ -9,8 +9,8 @@ use Rattle.model.specs.Listing.{active, array, entry, proposed}
 use Rattle.model.specs.Filled.{refusal}
 use Rattle.model.specs.Layout.{boardLength, freshBoard, recordOf, stationOf, changed}
 use Rattle.model.specs.Sound.{ownWritten, ownPassed}
-use Rattle.model.specs.Calls.{stations, islands, stationAt, lay, putRecord, notIdle, propose, notGoing, access}
-use Rattle.model.specs.Calls.{stepped, stepOn, step, putRegister}
+use Rattle.model.specs.Calls.{stations, islands, stationAt, lay, putRecord, putProposal, propose, notGoing}
+use Rattle.model.specs.Calls.{access, stepped, stepOn, step, putRegister}
 use Rattle.model.proofs.Board.Places.{InBoard}
 use Rattle.model.proofs.Board.Codec.{Fits, FitsStation, FitsStage}
 use Rattle.model.proofs.Board.Boards.{record-head, register-head, register-length}
@@ -23,7 +23,7 @@ use Rattle.model.proofs.Listing.Going.{Going}
 use Rattle.model.proofs.Calls.StepKeeps.{access-keeps}
 use Rattle.model.proofs.Board.Fresh.{length-fresh, fresh-sound}
 use Rattle.model.proofs.Calls.Refusals.{some-none, Shape, laid-fresh, Board, board-of, station-of, index-inside}
-use Rattle.model.proofs.Calls.Refusals.{call-case, step-on}
+use Rattle.model.proofs.Calls.Refusals.{call-case, may-propose, step-on}
 
 -- Bytes of the right length have the shape that a board had.
 shape-again : (n K : ℕ) (b d : List ℕ) → Shape n K b → length d ≡ boardLength n K → Shape n K d
@@ -51,11 +51,6 @@ pub lay-sound : (n K : ℕ) (b : List ℕ) → lay n K b .answer ≡ none → Bo
 lay-sound n K b e = let s = laid-fresh n K b e in subst Board (sym (s .1)) (fresh-board n K b (s .0))
 
 -- ---- what a call leaves as it was
-
-pub idle-of : (z : Station Figure) → notIdle z ≡ none → z ≡ idle
-unfolding notIdle
-idle-of idle e = refl
-idle-of (active v s) e = some-none 13 e
 
 pub going-of : (v : Figure) (s : Stage Figure) → notGoing (active v s) ≡ none → Going s
 unfolding notGoing
@@ -113,14 +108,17 @@ stepOn-head i b h k l =
 pub step-head : (i : ℕ) (b : List ℕ) → Board b → (k : ℕ) → k < 8 → byte (step i b .bytes) k ≡ byte b k
 step-head i b h k l = rw (step-on i b h) (stepOn-head i b h k l)
 
+-- a proposal that is put in, whether a call takes it or not
+pub put-head : (b : List ℕ) → Board b → (j : ℕ) → j < stations b → (v : Figure) (k : ℕ) → k < 8
+    → byte (putProposal (stations b) (islands b) j v b) k ≡ byte b k
+put-head b h j own v k l = record-head _ _ b (h .sound-board .len) j own _ k l
+
 pub propose-head : (i : ℕ) (v : Figure) (b : List ℕ) → Board b → (k : ℕ) → k < 8
     → byte (propose i v b .bytes) k ≡ byte b k
 unfolding propose
 propose-head i v b h k l =
     call-case (λ a. byte (a .bytes) k ≡ byte b k) _ some b _
-    (λ e. let own = index-inside i b (station-of i b _ (board-of b _ e .1) .0) in
-    record-head _ _ b (h .sound-board .len) (i - 1) own _ k l)
-    (λ j e. refl)
+    (λ e. put-head b h (i - 1) (index-inside i b (may-propose i b (board-of b _ e .1) .on)) v k l) (λ j e. refl)
 
 -- ---- proposing
 
@@ -132,16 +130,20 @@ pub proposed-fits : (v : Figure) → Fits v → FitsStation (proposed v)
 unfolding proposed FitsStation FitsStage
 proposed-fits v h = (h, h)
 
-pub propose-keeps : (i : ℕ) (v : Figure) → Fits v → (b : List ℕ) → Board b → Board (propose i v b .bytes)
-unfolding propose proposed changed
-propose-keeps i v fits b h =
-    board-again b (propose i v b .bytes) h (propose-head i v b h)
-    (call-case (λ a. SoundBoard (stations b) (islands b) (a .bytes)) _ some b _
-    (λ e. let own = index-inside i b (station-of i b _ (board-of b _ e .1) .0) in
+pub put-keeps : (b : List ℕ) → Board b → (j : ℕ) → j < stations b → (v : Figure) → Fits v
+    → Board (putProposal (stations b) (islands b) j v b)
+unfolding proposed changed
+put-keeps b h j own v fits =
     let positive : 0 < islands b = omega (arith, h .shape .islands-low) in
-    station-keeps (i - 1) _ _ b (sound-but (i - 1) _ _ b (h .sound-board)) own positive v _ _
-    (proposed-fits v fits) (proposed-sound _ _ (i - 1) b v positive) (record { steps = omega arith; met = omega arith }))
-    (λ k e. h .sound-board))
+    board-again b _ h (put-head b h j own v)
+    (station-keeps j _ _ b (sound-but j _ _ b (h .sound-board)) own positive v _ _ (proposed-fits v fits)
+    (proposed-sound _ _ j b v positive) (record { steps = omega arith; met = omega arith }))
+
+pub propose-keeps : (i : ℕ) (v : Figure) → Fits v → (b : List ℕ) → Board b → Board (propose i v b .bytes)
+unfolding propose
+propose-keeps i v fits b h =
+    call-case (λ a. Board (a .bytes)) _ some b _
+    (λ e. put-keeps b h (i - 1) (index-inside i b (may-propose i b (board-of b _ e .1) .on)) v fits) (λ k e. h)
 
 -- ---- stepping
 

@@ -2,13 +2,13 @@
 -- round, and that a refused call alters nothing.
 -- Relies on Refusals, CallsKeep and StepsTaken; the claim about any order, a sheet's pairs and the code rely on it.
 use Rattle.model.proofs.Kit.{_≡_, refl, sym, ap, subst, _∙_, Bool, false, _||_, not, List, [], _∷_, _++_, none}
-use Rattle.model.proofs.Kit.{some, ℕ, _-_, _<_, lit<, eqb, eqb-true, eqb-false, T, arith}
+use Rattle.model.proofs.Kit.{some, ℕ, _-_, lit<, eqb, eqb-true, eqb-false, T, arith}
 use Rattle.model.specs.Bytes.{names, Each}
 use Rattle.model.specs.Figure.{Figure}
 use Rattle.model.specs.Listing.{idle, active, proposed}
 use Rattle.model.specs.Layout.{readRecord, recordValue, recordOf, stationOf}
 use Rattle.model.specs.Calls.{After, Refusal, unlessRefused, stations, islands, stationAt}
-use Rattle.model.specs.Calls.{putProposal, notIdle, proposalRefusal, propose}
+use Rattle.model.specs.Calls.{putProposal, proposalRefusal, propose}
 use Rattle.model.specs.Proposals.{Proposal, AllFit, named, eachOnce, orLater, firstFault, pairsRefusal}
 use Rattle.model.specs.Proposals.{proposalsRefusal, oneByOne, proposeAll}
 use Rattle.model.specs.AnyOrder.{AllAccepted}
@@ -16,9 +16,9 @@ use Rattle.model.proofs.Basics.Tests.{and-l, and-r, and-i, T-false, by-
 use Rattle.model.proofs.Board.Codec.{Fits, station-bytes}
 use Rattle.model.proofs.Board.Boards.{record-same}
 use Rattle.model.proofs.Calls.Refusals.{some-none, unless-passes, unless-none, call-case, Board}
-use Rattle.model.proofs.Calls.Refusals.{board-of, board-passes, OnBoard, station-of, station-passes}
+use Rattle.model.proofs.Calls.Refusals.{board-of, board-passes, OnBoard, may-propose, proposal-passes}
 use Rattle.model.proofs.Calls.Refusals.{index-inside}
-use Rattle.model.proofs.Calls.CallsKeep.{idle-of, proposed-fits, propose-keeps, propose-head}
+use Rattle.model.proofs.Calls.CallsKeep.{proposed-fits, propose-keeps, propose-head}
 use Rattle.model.proofs.Calls.StepsTaken.{proposed-other}
 
 -- ---- one station
@@ -26,13 +26,6 @@ use Rattle.model.proofs.Calls.StepsTaken.{proposed-other}
 -- the station number i may propose on the sound board b
 abbrev pub Free : List ℕ → (i : ℕ) → Type 0
 Free b i = proposalRefusal i b ≡ none
-
-pub free-of : (i : ℕ) (b : List ℕ) → Free b i → OnBoard i b × (stationAt i b ≡ idle)
-free-of i b e = let s = station-of i b _ e in (s .0, idle-of (stationAt i b) (s .1))
-
-of-free : (i : ℕ) (b : List ℕ) → OnBoard i b → stationAt i b ≡ idle → Free b i
-unfolding notIdle
-of-free i b on e = station-passes i b on _ ∙ ap notIdle e
 
 pub accepted-of : (i : ℕ) (v : Figure) (b : List ℕ) → propose i v b .answer ≡ none → Board b × Free b i
 unfolding propose
@@ -64,7 +57,7 @@ module _ (j : ℕ) (w : Figure) (b : List ℕ) (h : Board b) (free : Free b j) w
     other-record on =
         proposed-other j w b h (ap (λ (a : After Refusal). a .answer) (accepts j w b h free)) (i - 1)
         (index-inside i b on)
-        (λ e. ne (omega (arith, on .low, free-of j b free .0 .low)))
+        (λ e. ne (omega (arith, on .low, may-propose j b free .on .low)))
 
     other-station : OnBoard i b → stationAt i (propose j w b .bytes) ≡ stationAt i b
     unfolding stationAt stationOf
@@ -73,14 +66,22 @@ module _ (j : ℕ) (w : Figure) (b : List ℕ) (h : Board b) (free : Free b j) w
 
     pub free-stays : Free b i → Free (propose j w b .bytes) i
     free-stays e =
-        let f = free-of i b e in
-        of-free i _ (record { low = f .0 .low; high = rw same-stations (f .0 .high) }) (other-station (f .0) ∙ f .1)
+        let m = may-propose i b e in
+        proposal-passes i _ (record {
+          on = record { low = m .on .low; high = rw same-stations (m .on .high) };
+          not-two = rw same-stations (m .not-two);
+          rests = other-station (m .on) ∙ m .rests;
+        })
 
     pub free-back : Free (propose j w b .bytes) i → Free b i
     free-back e =
-        let f = free-of i _ e in
-        let on : OnBoard i b = record { low = f .0 .low; high = rw same-stations at (f .0 .high) } in
-        of-free i b on (sym (other-station on) ∙ f .1)
+        let m = may-propose i _ e in
+        let on : OnBoard i b = record { low = m .on .low; high = rw same-stations at (m .on .high) } in
+        proposal-passes i b (record {
+          on = on;
+          not-two = rw same-stations at (m .not-two);
+          rests = sym (other-station on) ∙ m .rests;
+        })
 
   pub free-no-more : Fits w → Free (propose j w b .bytes) j → ⊥
   unfolding stationAt stationOf proposed
@@ -89,9 +90,9 @@ module _ (j : ℕ) (w : Figure) (b : List ℕ) (h : Board b) (free : Free b j) w
       = rw (same-stations, same-islands)
       (ap (λ (x : List ℕ). recordValue (readRecord (recordOf (stations b) (islands b) (j - 1) x))) is-put
       ∙ ap (λ (r : List ℕ). recordValue (readRecord r))
-      (record-same _ _ b (h .sound-board .len) (j - 1) (index-inside j b (free-of j b free .0)) _)
+      (record-same _ _ b (h .sound-board .len) (j - 1) (index-inside j b (may-propose j b free .on)) _)
       ∙ station-bytes (proposed w) _ (proposed-fits w fits)) in
-      idle-active (sym (free-of j _ e .1) ∙ s)
+      idle-active (sym (may-propose j _ e .rests) ∙ s)
     where
       idle-active : {v : Figure} {s : _} → idle ≡ active v s → ⊥
       idle-active q = absurd (let z : _≡_ {A = ℕ} 0 1 = cc in omega arith)

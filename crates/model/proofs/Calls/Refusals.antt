@@ -2,14 +2,17 @@
 -- Relies on the calls' definitions and SoundFacts; the laws of the calls rely on it, and so do the code's proofs.
 use Rattle.model.proofs.Kit.{_≡_, refl, sym, ap, _∙_, Bool, true, false, _&&_, inl, inr, _⊎_, List, none, some}
 use Rattle.model.proofs.Kit.{ℕ, _-_, _≤_, _<_, le-leb, lt-leb, eq-eqb, ne-eqb, eqb, leb, le→leb, leb→le, T}
-use Rattle.model.proofs.Kit.{eqb→eq, length, arith}
+use Rattle.model.proofs.Kit.{eqb→eq, length, not, ⊎-elim, ℕ-discrete, arith}
+use Rattle.model.specs.Figure.{Figure}
+use Rattle.model.specs.Listing.{Station, idle, active}
 use Rattle.model.specs.Layout.{boardLength, freshBoard}
 use Rattle.model.specs.Sound.{sound}
-use Rattle.model.specs.Calls.{After, Refusal, unless, Ranges, ranges, shapeRefusal, stations, islands}
-use Rattle.model.specs.Calls.{boardRefusal}
-use Rattle.model.specs.Calls.{stationRefusal, unlessRefused, lay, stepOn, step}
+use Rattle.model.specs.Calls.{After, Refusal, unless, Ranges, ranges, laidRanges, shapeRefusal, stations, islands}
+use Rattle.model.specs.Calls.{boardRefusal, stationRefusal, twoRefusal, notIdle, proposalRefusal, stationAt}
+use Rattle.model.specs.Calls.{unlessRefused, lay, stepOn, step}
 use Rattle.model.specs.Filled.{refusal}
-use Rattle.model.proofs.Basics.Tests.{never, and-l, and-r, and-i, T-true, no-T}
+use Rattle.model.proofs.Basics.Tests.{never, and-l, and-r, and-i, or-case, or-l, or-r, T-true, T-false, no-T}
+use Rattle.model.proofs.Basics.Tests.{clash, both}
 use Rattle.model.proofs.Board.SoundFacts.{SoundBoard, sound-facts, facts-sound}
 
 pub some-none : {A : Type 0} {X : Type 0} (k : A) → some k ≡ none → X
@@ -93,6 +96,32 @@ pub record Inside (asked : Ranges) : Type 0 where
 pub inside-itself : Inside ranges
 inside-itself = record { stations = λ n t. t; islands = λ K t. t }
 
+-- n that can be laid: 1 or 3 to 16
+laid-in : (n : ℕ) → T (laidRanges .stationsIn n) → (1 ≤ n) × (n ≤ 16) × (n ≡ 2 → ⊥)
+unfolding laidRanges
+laid-in n t =
+    ⊎-elim (λ s. let e = eqb→eq n 1 s in (omega arith, omega arith, λ q. omega arith))
+    (λ s. let w = within 3 16 n s in (omega (arith, w .0), w .1, λ q. omega (arith, w .0)))
+    (or-case (eqb n 1) (leb 3 n && leb n 16) t)
+
+pub inside-laid : Inside laidRanges
+unfolding ranges laidRanges
+inside-laid = record {
+  stations = λ n t. let w = laid-in n t in within-T 1 16 n (w .0) (w .1);
+  islands = λ K t. t;
+}
+
+-- the same by the head's range: all of it but 2
+pub two-not-laid : (n : ℕ) → n ≡ 2 → laidRanges .stationsIn n ≡ false
+two-not-laid n e = no-T _ (λ t. laid-in n t .2 e)
+
+pub others-laid : (n : ℕ) → (n ≡ 2 → ⊥) → laidRanges .stationsIn n ≡ ranges .stationsIn n
+unfolding ranges laidRanges
+others-laid n f = both _ _ (inside-laid .stations n) (λ t. let w = within 1 16 n t in elim (ℕ-discrete n 1) [
+  | yes e ↦ or-l (eqb n 1) _ (rw e tt)
+  | no g ↦ or-r (eqb n 1) _ (within-T 3 16 n (omega (arith, w .0)) (w .1))
+])
+
 module _ (n K : ℕ) (b : List ℕ) where
   pub shape-of : (asked : Ranges) → Inside asked → (later : Refusal) → shapeRefusal asked n K b later ≡ none
       → Shape n K b × (later ≡ none)
@@ -126,7 +155,16 @@ module _ (n K : ℕ) (b : List ℕ) where
   unfolding lay
   laid-fresh =
       call-case (λ (a : After Refusal). a .answer ≡ none → Shape n K b × (a .bytes ≡ freshBoard n K))
-      (shapeRefusal ranges n K b none) some b _ (λ e f. (shape-of ranges inside-itself none e .0, refl))
+      (shapeRefusal laidRanges n K b none) some b _ (λ e f. (shape-of laidRanges inside-laid none e .0, refl))
+      (λ k e f. some-none k f)
+
+  -- and it was not of two stations
+  pub laid-not-two : lay n K b .answer ≡ none → n ≡ 2 → ⊥
+  unfolding lay shapeRefusal
+  laid-not-two =
+      call-case (λ (a : After Refusal). a .answer ≡ none → n ≡ 2 → ⊥) (shapeRefusal laidRanges n K b none) some b _
+      (λ e f. let s7 = unless-none (leb 8 (length b)) 7 _ e in
+      laid-in n (unless-none (laidRanges .stationsIn n) 8 _ (s7 .1) .0) .2)
       (λ k e f. some-none k f)
 
 -- 7 to 11 are passed: what every call but laying asks of a board.
@@ -192,6 +230,42 @@ unfolding stationRefusal
 station-12 i b later f =
     unless-fails (leb 1 i && leb i (stations b)) 12 later
     (no-T _ (λ t. let w = within 1 (stations b) i t in f (w .0) (w .1)))
+
+-- 22 is passed: the board is not of two stations.
+pub two-of : (b : List ℕ) (later : Refusal) → twoRefusal b later ≡ none → (stations b ≡ 2 → ⊥) × (later ≡ none)
+unfolding twoRefusal
+two-of b later e =
+    let t = unless-none (not (eqb (stations b) 2)) 22 later e in
+    (λ q. clash (sym (eq-eqb (stations b) 2 q) ∙ T-false (eqb (stations b) 2) (t .0)), t .1)
+
+pub two-passes : (b : List ℕ) → (stations b ≡ 2 → ⊥) → (later : Refusal) → twoRefusal b later ≡ later
+unfolding twoRefusal unless
+two-passes b f later = simp (ne-eqb (stations b) 2 f)
+
+pub two-22 : (b : List ℕ) → stations b ≡ 2 → (later : Refusal) → twoRefusal b later ≡ some 22
+unfolding twoRefusal unless
+two-22 b e later = simp (eq-eqb (stations b) 2 e)
+
+-- 12, 22 and 13 are passed: the station may propose.
+pub record MayPropose (i : ℕ) (b : List ℕ) : Type 0 where
+  pub on : OnBoard i b
+  pub not-two : stations b ≡ 2 → ⊥
+  pub rests : stationAt i b ≡ idle
+
+idle-of : (z : Station Figure) → notIdle z ≡ none → z ≡ idle
+unfolding notIdle
+idle-of idle e = refl
+idle-of (active v s) e = some-none 13 e
+
+pub may-propose : (i : ℕ) (b : List ℕ) → proposalRefusal i b ≡ none → MayPropose i b
+may-propose i b e =
+    let s = station-of i b _ e in
+    let t = two-of b _ (s .1) in
+    record { on = s .0; not-two = t .0; rests = idle-of (stationAt i b) (t .1) }
+
+pub proposal-passes : (i : ℕ) (b : List ℕ) → MayPropose i b → proposalRefusal i b ≡ none
+unfolding notIdle
+proposal-passes i b m = station-passes i b (m .on) _ ∙ two-passes b (m .not-two) _ ∙ ap notIdle (m .rests)
 
 pub index-inside : (i : ℕ) (b : List ℕ) → OnBoard i b → i - 1 < stations b
 index-inside i b h = omega (arith, h .low, h .high)

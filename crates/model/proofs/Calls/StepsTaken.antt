@@ -19,8 +19,8 @@ use Rattle.model.proofs.Board.Values.{array-inside, sound-station, soun
 use Rattle.model.proofs.Listing.Going.{Going}
 use Rattle.model.proofs.Listing.MostSteps.{most-steps}
 use Rattle.model.proofs.Calls.Access.{write-bytes, read-bytes}
-use Rattle.model.proofs.Calls.Refusals.{Board, OnBoard, board-of, station-of, index-inside, call-case, some-none}
-use Rattle.model.proofs.Calls.CallsKeep.{idle-of}
+use Rattle.model.proofs.Calls.Refusals.{Board, OnBoard, board-of, may-propose, index-inside, call-case}
+use Rattle.model.proofs.Calls.Refusals.{some-none}
 
 -- "so it always fits", with room for one more
 module _ (b : List ℕ) (h : Board b) (j : ℕ) (own : j < stations b) where
@@ -72,7 +72,7 @@ module _ (i : ℕ) (v : Figure) (b : List ℕ) (h : Board b) (a : propose i v b 
   unfolding propose
   proposes P f =
       call-case (λ (d : After Refusal). d .answer ≡ none → P (d .bytes)) _ some b _
-      (λ e q. let s = station-of i b _ (board-of b _ e .1) in f (s .0) (idle-of (stationAt i b) (s .1)))
+      (λ e q. let m = may-propose i b (board-of b _ e .1) in f (m .on) (m .rests))
       (λ k e q. some-none k q) a
 
   pub proposed-on : OnBoard i b

@@ -34,8 +34,8 @@ pub record OnLaid (f : Form) : Type 1 where
   -- it leaves the board as the form's single calls leave it, which a list of calls may hold
   pub leaves : (b : List ℕ) → call b .bytes ≡ after (formCalls b f) b
   pub allowed : (b : List ℕ) → InRange f → AllAllowed (formCalls b f) b
-  -- and prints no refusal that only library callers meet
-  pub says : (b : List ℕ) → Board b → NotMet (say (call b .answer))
+  -- and prints no refusal that only library callers meet, on a board that is not of two stations
+  pub says : (b : List ℕ) → Board b → (calls.stations b ≡ 2 → ⊥) → NotMet (say (call b .answer))
 
 round-calls-allowed : (b is : List ℕ) (r : calls.Refusal)
     → AllAllowed (elim r [ none ↦ map stepping is | some j ↦ [] ]) b
@@ -60,7 +60,7 @@ each-form P lays on (propose i v) = on (propose i v) (record {
   plays = λ laid m. refl;
   leaves = λ b. refl;
   allowed = λ b h. (h .1, tt);
-  says = λ b h. propose-says b h i v;
+  says = λ b h not-two. propose-says b h not-two i v;
 })
 each-form P lays on (steps is) = on (steps is) (record {
   A = calls.RunAnswer;
@@ -71,7 +71,7 @@ each-form P lays on (steps is) = on (steps is) (record {
   allowed = λ b h.
       cond-case (λ (cs : List Call). AllAllowed cs b) (leb (length (expand is)) 65536) (map stepping (expand is)) []
       (λ e. steps-allowed (expand is) b) (λ e. tt);
-  says = λ b h. ran-says b h (expand is);
+  says = λ b h not-two. ran-says b h (expand is);
 })
 each-form P lays on show = on show (record {
   A = shows.Shown;
@@ -80,7 +80,7 @@ each-form P lays on show = on show (record {
   plays = λ laid m. refl;
   leaves = λ b. refl;
   allowed = λ b h. tt;
-  says = λ b h. show-says b h;
+  says = λ b h not-two. show-says b h;
 })
 each-form P lays on (rounds k rs) = on (rounds k rs) (record {
   A = byRound.RoundsAnswer;
@@ -89,7 +89,7 @@ each-form P lays on (rounds k rs) = on (rounds k rs) (record {
   plays = λ laid m. refl;
   leaves = rounds-leave k rs;
   allowed = λ b h. round-calls-allowed b (roundsSteps (calls.stations b) rs) (roundsRefusal k rs b);
-  says = λ b h. rounds-say b h k rs;
+  says = λ b h not-two. rounds-say b h k rs;
 })
 each-form P lays on (proposals ps) = on (proposals ps) (record {
   A = calls.Refusal;
@@ -98,7 +98,7 @@ each-form P lays on (proposals ps) = on (proposals ps) (record {
   plays = λ laid m. refl;
   leaves = together-leaves ps;
   allowed = λ b h. together-allowed ps (pairs-fit ps (h .1)) b (proposalsRefusal ps b);
-  says = λ b h. together-says b h ps;
+  says = λ b h not-two. together-says b h not-two ps;
 })
 
 -- what a line that was read asks for is allowed in a list

@@ -1,18 +1,18 @@
 -- "The program lends boards that fit, so only library callers meet 7, 10 and 11.": no line of a sheet prints one of
--- them. Relies on Printed and EachForm and on ListOfCalls' account of what stands between lines.
+-- them, nor 22. Relies on Printed and EachForm and on ListOfCalls' account of what stands between lines.
 use Rattle.model.proofs.Kit.{_≡_, refl, sym, ap, subst, _∙_, not, inl, inr, _⊎_, List, [], _∷_, none, some}
 use Rattle.model.proofs.Kit.{Option, ℕ, _≤_, leb-false, eqb-false, leb, length, take, length-drop}
 use Rattle.model.proofs.Kit.{length-replicate, mul-le-mul, arith}
 use lib.ListN.{length-take}
 use Rattle.model.specs.Layout.{boardLength}
-use Rattle.model.specs.Calls.{Refusal, unless, ranges, shapeRefusal, lay}
+use Rattle.model.specs.Calls.{Refusal, unless, ranges, laidRanges, shapeRefusal, lay}
 use Rattle.model.specs.Show.{text, textFrom}
 use Rattle.model.specs.Forms.{Form, formIn, tooDeep, orFour, Reading, reads, unread, readLine}
 use Rattle.model.specs.Sheet.{Played, lastRefusal, laidText, turnedDown, playBoard, playForm, playReading}
 use Rattle.model.specs.Sheet.{playLine, linesOf}
 use Rattle.model.specs.SheetList.{NotMet, EachPrints, NeverMet, boardOf}
 use Rattle.model.proofs.Basics.Tests.{true-T}
-use Rattle.model.proofs.Calls.Refusals.{refusal-case, within}
+use Rattle.model.proofs.Calls.Refusals.{refusal-case, within, inside-laid, laid-not-two}
 use Rattle.model.proofs.Sheet.Readers.{Always}
 use Rattle.model.proofs.Sheet.WrittenBack.{LineStood, line-stood}
 use Rattle.model.proofs.Sheet.Printed.{Other, refused-prints, answer-prints, unmet, other, always-unless}
@@ -24,10 +24,12 @@ use Rattle.model.proofs.Sheet.ListOfCalls.{start}
 
 -- ---- what stands between lines
 
--- The memory has room for the largest board, and begins with none or with one that a list of calls may have left.
+-- The memory has room for the largest board, and begins with none or with one that can be laid and that a list of calls
+-- may have left.
 record Fit (laid : ℕ) (m : List ℕ) : Type 0 where
   room : length m ≡ 16904
-  stands : (laid ≡ 0) ⊎ ((n : ℕ) × (K : ℕ) × Stands n K (record { printed = []; laid = laid; memory = m }))
+  stands : (laid ≡ 0)
+      ⊎ ((n : ℕ) × (K : ℕ) × (n ≡ 2 → ⊥) × Stands n K (record { printed = []; laid = laid; memory = m }))
 
 -- How the next line prints and where it leaves off.
 Goes : Played → Type 0
@@ -48,22 +50,23 @@ module _ (laid : ℕ) (m : List ℕ) (f : Fit laid m) where
   on-goes g o l stood = elim (f .stands) [
     | inl z ↦ subst Goes (sym (o .plays laid m ∙ no-board laid m (o .say) (o .call) z)) (refused-goes 5 (other 5 tt))
     | inr s ↦
-        let on = not-none (s .0) (s .1) laid (s .2 .is-laid) in
+        let at = s .3 in
+        let on = not-none (s .0) (s .1) laid (at .is-laid) in
         let leaves = form-leaves laid m on g o in (
           subst NotMet (sym (ap (λ (q : Played). q .printed) (o .plays laid m ∙ on-board laid m on (o .say) (o .call))))
-              (o .says (take laid m) (s .2 .held .board)),
+              (o .says (take laid m) (at .held .board) (rw (at .held .isN) (s .2))),
           record {
             room =
                 omega (
                   arith,
-                  same-length (s .0) (s .1) _ (s .2) l (reads g) leaves stood,
+                  same-length (s .0) (s .1) _ at l (reads g) leaves stood,
                   length-drop laid m,
                   f .room,
-                  s .2 .room,
-                  s .2 .is-laid,
+                  at .room,
+                  at .is-laid,
                 );
             stands =
-                inr (s .0, s .1, bare (s .0) (s .1) _ (stands-after (s .0) (s .1) _ (s .2) l (reads g) leaves stood));
+                inr (s .0, s .1, s .2, bare (s .0) (s .1) _ (stands-after (s .0) (s .1) _ at l (reads g) leaves stood));
           },
         )
   ]
@@ -79,7 +82,7 @@ module _ (laid : ℕ) (m : List ℕ) (f : Fit laid m) where
     part-fits h k = omega (arith, length-take (boardLength n K) m, f .room, mul-le-mul h k)
 
     eight-or-nine : Always Other (lay n K (take (boardLength n K) m) .answer)
-    unfolding lay shapeRefusal ranges unmet lastRefusal
+    unfolding lay shapeRefusal ranges laidRanges unmet lastRefusal
     eight-or-nine =
         answered _ _ _
         (always-unless _ 7 _ (λ e. absurd (omega (arith, leb-false 8 (length (take (boardLength n K) m)) e, part-long)))
@@ -87,7 +90,7 @@ module _ (laid : ℕ) (m : List ℕ) (f : Fit laid m) where
         (λ n-in. always-unless _ 9 _ (λ _. other 9 tt)
         (λ k-in. always-unless _ 10 none
         (λ e. absurd (eqb-false (length (take (boardLength n K) m)) (boardLength n K) e
-        (part-fits (within 1 16 n (true-T _ n-in) .1) (within 2 64 K (true-T _ k-in) .1))))
+        (part-fits (within 1 16 n (inside-laid .stations n (true-T _ n-in)) .1) (within 2 64 K (true-T _ k-in) .1))))
         (λ _. unfold Always in tt)))))
 
     board-goes : Goes (playBoard laid m n K)
@@ -105,7 +108,7 @@ module _ (laid : ℕ) (m : List ℕ) (f : Fit laid m) where
             f .room,
             fresh laid m n K ok .0 .len,
           );
-          stands = inr (n, K, bare n K _ (start laid m n K ok));
+          stands = inr (n, K, laid-not-two n K _ ok, bare n K _ (start laid m n K ok));
         },
       )
       | inr turned ↦
@@ -151,7 +154,7 @@ lines-go (l ∷ ls) p f =
     = line-goes (p .laid) (p .memory) f l (readLine l) (line-stood l) (no-form (p .laid) (p .memory) f l) in
     (g .0, lines-go ls (playLine (p .laid) (p .memory) l) (g .1))
 
--- No line of any sheet prints refusal 7, 10 or 11.
+-- No line of any sheet prints refusal 7, 10, 11 or 22.
 pub never-met : NeverMet
 unfolding NeverMet boardLength
 never-met s = lines-go (linesOf s) _ (record { room = length-replicate {A = ℕ} 16904 0; stands = inl refl })

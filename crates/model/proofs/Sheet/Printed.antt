@@ -20,7 +20,7 @@ use Rattle.model.specs.Sheet.{lastRefusal, refusedText, orRefused, propo
 use Rattle.model.specs.Sheet.{togetherText}
 use Rattle.model.specs.SheetList.{LibraryOnly, NotMet}
 use Rattle.model.proofs.Basics.Tests.{and-l}
-use Rattle.model.proofs.Calls.Refusals.{Board, board-passes, call-case}
+use Rattle.model.proofs.Calls.Refusals.{Board, board-passes, two-passes, call-case}
 use Rattle.model.proofs.Calls.Runs.{ran-is}
 use Rattle.model.proofs.Calls.Rounds.{rounds-case}
 use Rattle.model.proofs.Sheet.Readers.{Always}
@@ -45,7 +45,8 @@ low : (k : ℕ) → LibraryOnly k → k ≤ lastRefusal
 unfolding lastRefusal LibraryOnly
 low k (inl p) = omega arith
 low k (inr (inl p)) = omega arith
-low k (inr (inr p)) = omega arith
+low k (inr (inr (inl p))) = omega arith
+low k (inr (inr (inr p))) = omega arith
 
 pub refused-prints : (j : ℕ) → Other j → NotMet (refusedText j)
 unfolding NotMet Other
@@ -64,16 +65,17 @@ or-refused-prints (some k) t o h = refused-prints k o
 -- ---- refusals of calls on a board that fits
 
 unfoldable pub unmet : ℕ → Bool
-unmet k = leb k lastRefusal && not (eqb k 7 || (eqb k 10 || eqb k 11))
+unmet k = leb k lastRefusal && not (eqb k 7 || (eqb k 10 || (eqb k 11 || eqb k 22)))
 
 pub other : (k : ℕ) → T (unmet k) → Other k
 unfolding unmet lastRefusal Other LibraryOnly
 other k t = (leb→le k lastRefusal (and-l (leb k lastRefusal) _ t), apart)
   where
-    apart : (k ≡ 7) ⊎ ((k ≡ 10) ⊎ (k ≡ 11)) → ⊥
+    apart : (k ≡ 7) ⊎ ((k ≡ 10) ⊎ ((k ≡ 11) ⊎ (k ≡ 22))) → ⊥
     apart (inl p) = subst (λ (i : ℕ). T (unmet i)) p t
     apart (inr (inl p)) = subst (λ (i : ℕ). T (unmet i)) p t
-    apart (inr (inr p)) = subst (λ (i : ℕ). T (unmet i)) p t
+    apart (inr (inr (inl p))) = subst (λ (i : ℕ). T (unmet i)) p t
+    apart (inr (inr (inr p))) = subst (λ (i : ℕ). T (unmet i)) p t
 
 pub always-unless : (t : Bool) (k : ℕ) (later : Refusal) → (t ≡ false → Other k) → (t ≡ true → Always Other later)
     → Always Other (unless t k later)
@@ -112,30 +114,35 @@ module _ (b : List ℕ) (h : Board b) where
   board-first : (later : Refusal) → Always Other later → Always Other (boardRefusal b later)
   board-first later = subst (Always Other) (sym (board-passes b h later))
 
-  -- 12 and 13 of a proposal on its own, and of the first pair that has a fault
-  own-fault : (i : ℕ) → Always Other (proposalRefusal i b)
-  unfolding stationRefusal unmet lastRefusal
-  own-fault i = always-unless _ 12 _ (λ _. other 12 tt) (λ _. idle-or-13 (stationAt i b))
+  -- no sheet has laid a board of two stations
+  module _ (not-two : calls.stations b ≡ 2 → ⊥) where
+    -- 12 and 13 of a proposal on its own, and of the first pair that has a fault
+    own-fault : (i : ℕ) → Always Other (proposalRefusal i b)
+    unfolding stationRefusal unmet lastRefusal
+    own-fault i =
+        always-unless _ 12 _ (λ _. other 12 tt)
+        (λ _. subst (Always Other) (sym (two-passes b not-two (notIdle (stationAt i b)))) (idle-or-13 (stationAt i b)))
 
-  pub propose-says : (i : ℕ) (v : Figure) → NotMet (orRefused (calls.propose i v b .answer) (proposedText i v))
-  unfolding calls.propose proposedText text textFrom
-  propose-says i v =
-      or-refused-prints (calls.propose i v b .answer) (proposedText i v) (answered _ b _ (board-first _ (own-fault i)))
-      (answer-prints (proposedText i v) (λ e. omega arith))
+    pub propose-says : (i : ℕ) (v : Figure) → NotMet (orRefused (calls.propose i v b .answer) (proposedText i v))
+    unfolding calls.propose proposedText text textFrom
+    propose-says i v =
+        or-refused-prints (calls.propose i v b .answer) (proposedText i v)
+        (answered _ b _ (board-first _ (own-fault i)))
+        (answer-prints (proposedText i v) (λ e. omega arith))
 
-  first-fault : (ps : List Proposal) → Always Other (firstFault ps b)
-  unfolding firstFault Always
-  first-fault [] = tt
-  first-fault (p ∷ ps) =
-      or-later (proposalRefusal (p .station) b) (firstFault ps b) (own-fault (p .station)) (first-fault ps)
+    first-fault : (ps : List Proposal) → Always Other (firstFault ps b)
+    unfolding firstFault Always
+    first-fault [] = tt
+    first-fault (p ∷ ps) =
+        or-later (proposalRefusal (p .station) b) (firstFault ps b) (own-fault (p .station)) (first-fault ps)
 
-  pub together-says : (ps : List Proposal)
-      → NotMet (orRefused (proposeAll ps b .answer) (togetherText (length ps)))
-  unfolding proposeAll proposalsRefusal pairsRefusal togetherText text textFrom unmet lastRefusal
-  together-says ps =
-      or-refused-prints (proposeAll ps b .answer) (togetherText (length ps))
-      (answered _ b _ (board-first _ (always-unless _ 20 _ (λ _. other 20 tt) (λ _. first-fault ps))))
-      (answer-prints (togetherText (length ps)) (λ e. omega arith))
+    pub together-says : (ps : List Proposal)
+        → NotMet (orRefused (proposeAll ps b .answer) (togetherText (length ps)))
+    unfolding proposeAll proposalsRefusal pairsRefusal togetherText text textFrom unmet lastRefusal
+    together-says ps =
+        or-refused-prints (proposeAll ps b .answer) (togetherText (length ps))
+        (answered _ b _ (board-first _ (always-unless _ 20 _ (λ _. other 20 tt) (λ _. first-fault ps))))
+        (answer-prints (togetherText (length ps)) (λ e. omega arith))
 
   pub ran-says : (is : List ℕ) → NotMet (ranText (run is b .answer))
   unfolding run unmet lastRefusal

@@ -1,6 +1,6 @@
 -- Pairs as they are read: one pair in its brackets, and the pairs of a line.
 -- Relies on the laws of lists and the lexer's Places and Spaced; the proofs of src/lib.rt rely on it.
-use Rattle.model.proofs.Kit.{_≡_, refl, sym, ap, _∙_, Bool, true, false, cond, List, [], none, ℕ, _+_, _-_, _≤_, _<_, ℤ}
+use Rattle.model.proofs.Kit.{_≡_, refl, _∙_, Bool, cond, List, [], none, ℕ, _+_, _-_, _≤_, _<_, ℤ}
 use Rattle.model.proofs.Kit.{eq-eqb, ne-eqb, eqb, length, drop, drop-of-length-le, getD, w8, Fits, arith}
 use lib.ListN.{List·getD-eq-default}
 use Rattle.model.specs.Forms.{found, andThen, spaced, pairIn, orFour}

@@ -11,12 +11,13 @@ use Rattle.model.specs.Listing.{proposed}
 use Rattle.model.specs.Layout.{recordAt, readRecord, layRecord, recordFields, writingOf, readingOf, ofPhase}
 use Rattle.model.specs.Layout.{recordValue, recordOf, withCounts}
 use Rattle.model.specs.Calls.{After, Refusal, stations, islands, boardRefusal, unlessRefused, putRecord}
-use Rattle.model.specs.Calls.{notIdle, proposalRefusal, propose}
+use Rattle.model.specs.Calls.{twoRefusal, notIdle, proposalRefusal, propose, stationAt}
 use Rattle.model.specs.Told.{verdict}
 use Rattle.model.proofs.Basics.Splices.{byte-part}
 use Rattle.model.proofs.Board.Places.{record-inside}
-use Rattle.model.proofs.Calls.Refusals.{board-of, board-first, OnBoard, station-passes}
-use Rattle.model.proofs.Calls.Proposals.{free-of, accepts}
+use Rattle.model.proofs.Calls.Refusals.{board-of, board-first, OnBoard, station-passes, two-passes, two-22}
+use Rattle.model.proofs.Calls.Refusals.{may-propose}
+use Rattle.model.proofs.Calls.Proposals.{accepts}
 use Rattle.soundness.specs.Shaped.{numbered}
 use Rattle.soundness.specs.declared.place.Place.{Place}
 use Rattle.soundness.specs.declared.place.Place.the-variants as places
@@ -47,11 +48,22 @@ module _ (i : ℕ) (b : List ℕ) where
     unfolding f readRecord
     phase-is = byte-part at 24 b 0 (lit< tt) ∙ ap (λ (k : ℕ). getD b k 0) (add-zero at)
 
-    by-value : proposalRefusal i b ≡ notIdle (ofPhase (getD b at 0) f)
+    past-twelve : proposalRefusal i b ≡ twoRefusal b (notIdle (stationAt i b))
+    unfolding stations
+    past-twelve = station-passes i b (record { low = on .low; high = on .high }) _
+
+    pub head-inside : 0 < length b
+    head-inside = omega (arith, on .inside)
+
+    pub twenty-two : getD b 0 0 ≡ 2 → numbered 22 ≡ proposalRefusal i b
+    unfolding numbered stations
+    twenty-two e = sym (past-twelve ∙ two-22 b e _)
+
+    by-value : (getD b 0 0 ≡ 2 → ⊥) → proposalRefusal i b ≡ notIdle (ofPhase (getD b at 0) f)
     unfolding f recordValue stations
-    by-value =
-        station-passes i b (record { low = on .low; high = on .high }) _
-        ∙ ap notIdle (own-value i b j at on f refl) ∙ ap (λ (k : ℕ). notIdle (ofPhase k f)) phase-is
+    by-value others =
+        past-twelve ∙ two-passes b others _ ∙ ap notIdle (own-value i b j at on f refl)
+        ∙ ap (λ (k : ℕ). notIdle (ofPhase k f)) phase-is
 
     -- any phase but 0 is that of a station that has proposed
     busy : (k : ℕ) → (k ≡ 0 → ⊥) → notIdle (ofPhase k f) ≡ some 13
@@ -66,19 +78,19 @@ module _ (i : ℕ) (b : List ℕ) where
     busy (suc (suc (suc (suc (suc (suc (suc zero))))))) h = refl
     busy (suc (suc (suc (suc (suc (suc (suc (suc k)))))))) h = refl
 
-    pub thirteen : (getD b at 0 ≡ 0 → ⊥) → numbered 13 ≡ proposalRefusal i b
+    pub thirteen : (getD b 0 0 ≡ 2 → ⊥) → (getD b at 0 ≡ 0 → ⊥) → numbered 13 ≡ proposalRefusal i b
     unfolding numbered
-    thirteen ne = sym (by-value ∙ busy (getD b at 0) ne)
+    thirteen others ne = sym (by-value others ∙ busy (getD b at 0) ne)
 
-    pub taken : getD b at 0 ≡ 0 → numbered 0 ≡ proposalRefusal i b
+    pub taken : (getD b 0 0 ≡ 2 → ⊥) → getD b at 0 ≡ 0 → numbered 0 ≡ proposalRefusal i b
     unfolding numbered notIdle ofPhase
-    taken e = sym (by-value ∙ ap (λ (k : ℕ). notIdle (ofPhase k f)) e)
+    taken others e = sym (by-value others ∙ ap (λ (k : ℕ). notIdle (ofPhase k f)) e)
 
 -- ---- a proposal that is taken
 
 module _ (i : ℕ) (b : List ℕ) (sound : boardRefusal b none ≡ none) (free : proposalRefusal i b ≡ none) where
   its : OnBoard i b
-  its = free-of i b free .0
+  its = may-propose i b free .on
 
   pub index-from : 1 ≤ i
   index-from = its .low

@@ -1,6 +1,6 @@
 -- The forms by their words: what follows `board`, `propose`, `steps`, `rounds` and `show`, as the readers of numbers,
--- figures, items, lists and brackets found it. Relies on the lexer's Places and Spaced and the model's table of words; the proofs of
--- src/form.rt rely on it.
+-- figures, items, lists and brackets found it.
+-- Relies on the lexer's Places and Spaced and the model's table of words; the proofs of src/form.rt rely on it.
 use Rattle.model.proofs.Kit.{_≡_, sym, ap, _∙_, Bool, true, false, cond, List, [], none, some, Option, ℕ, _+_}
 use Rattle.model.proofs.Kit.{_≤_, _<_, ℤ, length, drop, drop-of-length-le, arith}
 use Rattle.model.specs.Show.{text}
