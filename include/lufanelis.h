@@ -29,14 +29,14 @@ extern "C" {
 #endif
 
 /* Why a call is turned down, in the order in which it is tested; rounds are tested for 18 and 19 behind 11, pairs for 20
- * between 11 and 12, tapes for 1 and then for 21. No call answers with 2 to 5, which come only in what `lufanelis_play_line`
- * prints, as `(refused 4)`. */
+ * between 11 and 12, proposals for 22 between 12 and 13, tapes for 1 and then for 21. No call answers with 2 to 5, which come
+ * only in what `lufanelis_play_line` prints, as `(refused 4)`. */
 enum {
     LUFANELIS_ACCEPTED = 0,
     LUFANELIS_SHEET_TOO_LONG = 1,     /* a run sheet of more than 32,768 bytes, beside two tapes */
     LUFANELIS_TOO_MANY_STEPS = 6,     /* a run of more than 65,536 stations */
     LUFANELIS_BOARD_TOO_SHORT = 7,    /* fewer than 8 bytes */
-    LUFANELIS_BAD_STATION_COUNT = 8,  /* n is not 1 to 16 */
+    LUFANELIS_BAD_STATION_COUNT = 8,  /* n is not 1 to 16, or not 1 or 3 to 16 where a board is laid */
     LUFANELIS_BAD_ISLAND_COUNT = 9,   /* K is not 2 to 64 */
     LUFANELIS_BAD_BOARD_LENGTH = 10,  /* the length is not that of n and K */
     LUFANELIS_BOARD_NOT_SOUND = 11,
@@ -49,7 +49,8 @@ enum {
     LUFANELIS_AMID_COLLECT = 18,      /* a station stands in phase 2, 4 or 6 */
     LUFANELIS_BAD_ROUND = 19,         /* a round names more than `most` stations, 0, one above n, or one out of rising order */
     LUFANELIS_NAMED_TWICE = 20,       /* two pairs have the same station */
-    LUFANELIS_NO_STEP_ANSWER = 21     /* a line of a tape says nothing that a step answers */
+    LUFANELIS_NO_STEP_ANSWER = 21,    /* a line of a tape says nothing that a step answers */
+    LUFANELIS_TWO_STATIONS = 22       /* a proposal on a board of two stations */
 };
 
 /* What a step did. */
@@ -103,11 +104,12 @@ enum {
  * number and no tape's. */
 #define LUFANELIS_NO_ROOM 255
 
-/* Lays a fresh board for n stations and k islands; what the bytes held before does not matter. Writes `board`.
- * Answers 0, or the refusal's number (7 to 10). */
+/* Lays a fresh board for n stations and k islands; what the bytes held before does not matter. Two stations are too few, and
+ * are refused with 8. Every other call is lent a board of two stations as any other, but that it takes no proposal (22).
+ * Writes `board`. Answers 0, or the refusal's number (7 to 10). */
 uint8_t lufanelis_lay(uint8_t *board, size_t board_length, uint8_t n, uint8_t k);
 
-/* An idle station proposes a figure. Writes `board`. Answers 0, or the refusal's number (7 to 13). */
+/* An idle station proposes a figure. Writes `board`. Answers 0, or the refusal's number (7 to 12, 22, 13). */
 uint8_t lufanelis_propose(uint8_t *board, size_t board_length, uint8_t station, int32_t figure);
 
 /* Several idle stations propose a figure each, all of them or none. `pairs_length` counts pairs; there may be any number of
@@ -115,9 +117,9 @@ uint8_t lufanelis_propose(uint8_t *board, size_t board_length, uint8_t station, 
  *   bits 0 to 7     the station
  *   bits 8 to 31    not looked at
  *   bits 32 to 63   the figure, 32 bits of two's complement
- * First 20 is asked of all pairs, of stations that are not there too; then the pairs are tried as they stand, each for 12 and
- * then for 13, and the first that is found is answered. The board afterwards is that of single proposals in any order.
- * Writes `board`. Answers 0, or the refusal's number (7 to 11, 20, 12, 13). */
+ * First 20 is asked of all pairs, of stations that are not there too; then the pairs are tried as they stand, each for 12, then
+ * for 22 and then for 13, and the first that is found is answered. The board afterwards is that of single proposals in any
+ * order. Writes `board`. Answers 0, or the refusal's number (7 to 11, 20, 12, 22, 13). */
 uint8_t lufanelis_propose_all(uint8_t *board, size_t board_length, const uint64_t *pairs, size_t pairs_length);
 
 /* Tests a board. Writes nothing. Answers 0 for a sound board, or the refusal's number (7 to 11). */

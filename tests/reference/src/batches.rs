@@ -2,7 +2,7 @@
 //! long runs. `round_batches` has what is made of rounds alone, `pair_batches` what is made of figures put in
 //! together, `count_batches` what is made of counted steps, `filled_batches` what is made of counted registers,
 //! `order_batches` what is made of figures beside each other, `left_running` stations that alone go on, `line_batches` the
-//! lines of sheets.
+//! lines of sheets, `two_stations` and `two_runs` boards of two stations and runs on them.
 
 use crate::boards;
 use crate::bytes::length;
@@ -15,9 +15,10 @@ use crate::halts::ROUND_END;
 use crate::lent::{pattern, Lent};
 use crate::lists;
 use crate::made_lists;
-use crate::pairs::word;
+use crate::pairs::{word, Pair};
 use crate::random::Random;
 use crate::reach;
+use crate::starts;
 
 /// Room for a line that is handed back: enough, too little, and more.
 pub const ROOMS: [usize; 6] = [SHOWN, SHOWN - 1, SHOWN + 1, SHOWN + 90, 1, 0];
@@ -59,7 +60,7 @@ impl Compare<'_> {
     pub fn driven(&mut self, seed: u64) {
         let list = made_lists::make(seed);
         let mut r = Random::new(seed);
-        let (mut ours, mut theirs) = self.laid(seed, list.n, list.k);
+        let (mut ours, mut theirs) = self.start(seed, list.n, list.k, &list.held());
         let mut done = [false; 256];
         for call in &list.calls {
             match *call {
@@ -90,18 +91,20 @@ impl Compare<'_> {
         }
     }
 
-    /// A board laid over bytes of any content.
-    fn laid(&mut self, seed: u64, n: u8, k: u8) -> (Lent, Lent) {
+    /// A board laid over bytes of any content. Of two stations the laying is refused, and the start made by hand.
+    fn start(&mut self, seed: u64, n: u8, k: u8, held: &[Pair]) -> (Lent, Lent) {
         let content = pattern(&mut self.patterns, length(n, k));
         let (mut ours, mut theirs) = self.copies(&content);
-        self.call(seed, Call::Lay(n, k), &mut ours, &mut theirs);
+        if self.call(seed, Call::Lay(n, k), &mut ours, &mut theirs) != 0 {
+            return self.copies(&starts::proposed(n, k, held));
+        }
         (ours, theirs)
     }
 
     /// A list from a fresh board, its steps put together to runs.
     pub fn listed_runs(&mut self, seed: u64) {
         let list = made_lists::make(seed);
-        let (mut ours, mut theirs) = self.laid(seed, list.n, list.k);
+        let (mut ours, mut theirs) = self.start(seed, list.n, list.k, &list.held());
         let step = |call: &lists::Call| matches!(call, lists::Call::Step(_));
         for group in list.calls.chunk_by(|a, b| step(a) && step(b)) {
             match group[0] {
@@ -119,11 +122,14 @@ impl Compare<'_> {
     pub fn runs(&mut self, seed: u64) {
         let mut r = Random::new(seed);
         let (n, k) = r.size();
-        let fresh = r.once_in(2);
-        let (mut ours, mut theirs) =
-            if fresh { self.laid(seed, n, k) } else { self.copies(&boards::sound(&mut r, n, k)) };
-        for i in 1..=if fresh { n } else { 0 } {
-            self.call(seed, Call::Propose(i, r.figure()), &mut ours, &mut theirs);
+        let figures: Vec<Pair> = if r.once_in(2) { (1..=n).map(|i| (i, r.figure())).collect() } else { vec![] };
+        let (mut ours, mut theirs) = if figures.is_empty() {
+            self.copies(&boards::sound(&mut r, n, k))
+        } else {
+            self.start(seed, n, k, &starts::held(n, figures.clone()))
+        };
+        for (i, v) in figures {
+            self.call(seed, Call::Propose(i, v), &mut ours, &mut theirs);
         }
         for _ in 0..r.between(1, 12) {
             let stations = stations(&mut r, n, 60 * n as usize);
@@ -235,10 +241,16 @@ impl Compare<'_> {
             self.counted_board(seed.wrapping_mul(64) + 48 + part);
             self.ordered_board(seed.wrapping_mul(64) + 56 + part);
         }
+        for part in 0..2 {
+            self.board_of_two(seed.wrapping_mul(64) + part);
+            self.list_of_two(seed.wrapping_mul(64) + part);
+        }
         if seed % 16 == 0 {
             self.lines(seed);
             self.much_laid(seed);
             self.words(seed);
+            self.lines_of_two(seed);
+            self.the_boards_own_first(seed);
         }
         if seed % 256 == 0 {
             self.large_batch(seed);
@@ -260,6 +272,12 @@ impl Compare<'_> {
         self.built_runs(seed);
         FILLED_SIZES.iter().for_each(|size| self.every_filled(seed, *size));
         EDGES.iter().for_each(|figure| self.every_pair(seed, *figure));
+        self.every_laying(seed);
+        self.every_k(seed);
+        self.every_standing(seed);
+        self.circling_of_two(seed);
+        self.first_of_two(seed);
+        self.figures_of_two(seed);
     }
 }
 

@@ -55,9 +55,20 @@ fn drawn(r: &mut Random, n: u8, k: u8, phases: &[u8]) -> Vec<u8> {
 /// A sound board on which one station stands at this place and has counted no step.
 pub fn standing_at(r: &mut Random, n: u8, k: u8, who: usize, place: Place) -> Vec<u8> {
     let mut f = Fields::of_bytes(&sound(r, n, k));
-    f.records[who] = record(r, who, k, place);
-    own(&mut f, who);
+    stand(r, &mut f, who, place);
     f.to_bytes()
+}
+
+/// A sound board on which every station stands at its place, as many as there are places.
+pub fn all_standing(r: &mut Random, k: u8, places: &[Place]) -> Vec<u8> {
+    let mut f = Fields::of_bytes(&sound(r, places.len() as u8, k));
+    places.iter().enumerate().for_each(|(who, place)| stand(r, &mut f, who, *place));
+    f.to_bytes()
+}
+
+fn stand(r: &mut Random, f: &mut Fields, who: usize, place: Place) {
+    f.records[who] = record(r, who, f.k, place);
+    own(f, who);
 }
 
 fn cell(r: &mut Random, marks: u8, islands: u8) -> Cell {

@@ -3,7 +3,7 @@
 
 use crate::bytes::{fields, length, values, Fields};
 use crate::halts::Halts;
-use crate::model::{Answer, Standing, World};
+use crate::model::{Answer, Standing, World, TOO_FEW};
 use crate::pairs::Pair;
 use crate::refusal::Refusal;
 use crate::sound::sound;
@@ -11,8 +11,8 @@ use crate::sound::sound;
 pub const MOST_STEPS: usize = 65_536;
 pub const LONGEST_SHOW: usize = 512;
 
-/// 8 and 9.
-pub fn counts(n: u8, k: u8) -> Result<(), Refusal> {
+/// 8 and 9 of a head.
+fn counts(n: u8, k: u8) -> Result<(), Refusal> {
     if !(1..=16).contains(&n) {
         return Err(Refusal::StationCount);
     }
@@ -22,13 +22,21 @@ pub fn counts(n: u8, k: u8) -> Result<(), Refusal> {
     Ok(())
 }
 
-/// 7 to 10, with n and K as given, or else from the head.
+/// 8 and 9 of a laying, which allows "n = 1 or 3 to 16, else 8".
+pub fn laid_counts(n: u8, k: u8) -> Result<(), Refusal> {
+    if n == TOO_FEW {
+        return Err(Refusal::StationCount);
+    }
+    counts(n, k)
+}
+
+/// 7 to 10, with n and K as given to a laying, or else from the head.
 pub fn measured(board: &[u8], given: Option<(u8, u8)>) -> Result<(), Refusal> {
     if board.len() < 8 {
         return Err(Refusal::BoardTooShort);
     }
     let (n, k) = given.unwrap_or((board[0], board[1]));
-    counts(n, k)?;
+    given.map_or_else(|| counts(n, k), |(n, k)| laid_counts(n, k))?;
     if board.len() != length(n, k) {
         return Err(Refusal::BoardLength);
     }
@@ -61,8 +69,7 @@ pub fn lay(board: &mut [u8], n: u8, k: u8) -> Result<(), Refusal> {
 
 pub fn propose(board: &mut [u8], station: u8, figure: i32) -> Result<(), Refusal> {
     let mut world = opened(board)?;
-    let who = world.place(station)?;
-    world.propose(who, figure)?;
+    world.propose(station, figure)?;
     closed(board, &world);
     Ok(())
 }

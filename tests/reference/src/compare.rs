@@ -41,16 +41,19 @@ pub struct Counts {
     pub words: u64,
     /// How stations ended that were left alone or propose one figure.
     pub ends: Ends,
+    /// Runs and boards of two stations on which somebody has decided, and on which nobody has.
+    pub two_decided: u64,
+    pub two_undecided: u64,
     /// What was said of two tapes.
     pub tapes: Verdicts,
     /// How often each refusal was the answer of a call on a board; at 0 the accepted calls.
-    pub refusals: [u64; 21],
+    pub refusals: [u64; 23],
 }
 
 impl Counts {
-    /// The refusals that calls on a board can meet and did not; 17 is none of them.
+    /// The refusals that calls on a board can meet and did not; 17 is none of them, and 21 is asked of tapes.
     pub fn unmet(&self) -> Vec<usize> {
-        (6..self.refusals.len()).filter(|number| *number != 17 && self.refusals[*number] == 0).collect()
+        (6..self.refusals.len()).filter(|number| ![17, 21].contains(number) && self.refusals[*number] == 0).collect()
     }
 }
 

@@ -1,6 +1,7 @@
 //! Sheets that stand at the edges which the document names, each with a name.
 
-use crate::{order_edges, pair_edges, round_edges};
+use crate::tape_edges::CIRCLING;
+use crate::{order_edges, pair_edges, round_edges, two_edges};
 
 pub struct Edge {
     pub name: &'static str,
@@ -67,6 +68,7 @@ pub fn edges() -> Vec<Edge> {
     all.extend(round_edges::edges());
     all.extend(order_edges::edges());
     all.extend(pair_edges::edges());
+    all.extend(two_edges::edges());
     all
 }
 
@@ -76,7 +78,7 @@ fn before_a_board() -> Vec<Edge> {
         "(show)", "(propose 1 1)", "(steps)", "(steps 1)", "(steps (times 65537 1))", "(board 0 2)", "(board 17 2)",
         "(board 1 1)", "(board 1 65)", "(board 100 2)", "(propose 100 1)", "(show)", "(board 1 2)", "(show)",
         "(board 17 2)", "(show)", "(propose 1 4)", "(board 2 1)", "(show)", "(steps (times 6 1))", "(board 2 99)",
-        "(show)", "(board 2 2)", "(show)",
+        "(show)", "(board 3 1)", "(board 3 99)", "(show)", "(board 2 2)", "(show)", "(board 3 2)", "(show)",
     ];
     vec![Edge { name: "before a board", sheet: lines.join("\n").into_bytes() }]
 }
@@ -142,7 +144,7 @@ fn proposals() -> String {
 #[rustfmt::skip]
 fn ranges() -> Vec<Edge> {
     let mut boards = Vec::new();
-    for n in [0, 1, 2, 15, 16, 17, 98, 99, 100, 255, 256, 257] {
+    for n in [0, 1, 2, 3, 15, 16, 17, 98, 99, 100, 255, 256, 257] {
         for k in [0, 1, 2, 63, 64, 65, 98, 99, 100, 255, 256, 258] {
             boards.push(format!("(board {n} {k})\n(show)"));
         }
@@ -151,7 +153,7 @@ fn ranges() -> Vec<Edge> {
     for v in ["-2147483649", "-2147483648", "-2147483647", "-1", "-0", "0", "1", "2147483646", "2147483647",
         "2147483648", "4294967295", "4294967296", "-4294967296", "9223372036854775807", "9223372036854775808",
         "-9223372036854775809", "18446744073709551616", "00", "01", "-01", "+1", "1.0", "1e3", "0x1"] {
-        figures.push(format!("(board 2 2)\n(propose 1 {v})\n(show)\n(propose 1 {v})\n(steps (times 8 1))\n(show)"));
+        figures.push(format!("(board 3 2)\n(propose 1 {v})\n(show)\n(propose 1 {v})\n(steps (times 11 1))\n(show)"));
     }
     let mut numbers = Vec::new();
     for v in ["-1", "-0", "0", "00", "1", "01", "2", "3", "4", "16", "17", "98", "99", "100", "256", "257", "99998",
@@ -181,9 +183,9 @@ fn spellings() -> Vec<Edge> {
         "(steps (times (times 1 1) 1))", "(steps (steps 1))", "(steps (show))", "(steps 1,2)", "(steps 1\t2)", "(steps\t1)",
         "(propose)", "(propose 1)", "(propose 3)", "(propose 3 )", "(propose  3 1)", "(propose 3  1)", "(propose 3 1 1)",
         "(propose 3 1 )", "(propose (3) 1)", "(propose 3 (1))", "(propose 3 a)", "(propose a 3)", "(propose 0 1)",
-        "(propose 4 1)", "(propose 1 1)", "(propose 3 1)", "(propose 3 1)", "(board)", "(board 2)", "(board 2 )",
-        "(board 2 2 )", "(board 2 2 2)", "(board  2 2)", "(board (2) 2)", "(board -1 2)", "(board 2 -2)", "(board 02 2)",
-        "(board 2 02)", "(board 2 +2)", "board 2 2", "(board 2 2", "(board 2 2))", "; comment", "# comment", "(;)", "\"\"",
+        "(propose 4 1)", "(propose 1 1)", "(propose 3 1)", "(propose 3 1)", "(board)", "(board 3)", "(board 3 )",
+        "(board 3 2 )", "(board 3 2 2)", "(board  3 2)", "(board (3) 2)", "(board -1 2)", "(board 3 -2)", "(board 03 2)",
+        "(board 3 02)", "(board 3 +2)", "board 3 2", "(board 3 2", "(board 3 2))", "; comment", "# comment", "(;)", "\"\"",
     ]);
     vec![Edge { name: "spellings", sheet: after_head(&lines) }]
 }
@@ -193,7 +195,8 @@ fn spellings() -> Vec<Edge> {
 fn bytes() -> Vec<Edge> {
     let mut out = Vec::new();
     for pattern in [["", ""], ["(", "show)"], ["(show", ")"], ["(show)", ""], ["", "(show)"], ["(steps", "1)"],
-        ["(steps ", ")"], ["(steps 1", ")"], ["(steps (times 2", "1))"], ["(propose 3 ", "1)"], ["(board 2 ", ")"],
+        ["(steps ", ")"], ["(steps 1", ")"], ["(steps (times 2", "1))"], ["(propose 3 ", "1)"], ["(board 3 ", ")"],
+        ["(board ", " 2)"],
         ["(rounds", "1)"], ["(rounds ", ")"], ["(rounds 1", "(1))"], ["(rounds 1 (", "))"], ["(rounds 2 (1", "2))"],
         ["(rounds 1 (1)", "(2))"], ["(rounds 1 ()", ")"], ["(propose", "(3 1))"], ["(propose (3", "1))"],
         ["(propose (3 1", "))"], ["(propose (", "1))"], ["(propose (3 ", "1))"], ["(propose (3 1)", "(4 5))"],
@@ -211,8 +214,6 @@ fn bytes() -> Vec<Edge> {
 }
 
 fn starred() -> Vec<Edge> {
-    let circle = "(board 2 2)\n(propose 1 7)\n(propose 2 3)\n\
-        (steps (times 2 (times 3 2) (times 3 1) (times 3 2) (times 6 1) (times 3 2)))\n(show)\n(steps 1 2)\n";
     let equal = "(board 3 2)\n(propose 1 5)\n(propose 2 5)\n(propose 3 5)\n(steps (times 12 1 2 3))\n(show)\n";
     let longest = format!(
         "(board 16 64)\n{}(steps (times 300 1 2 3 4 5 6 7 8 9 10 11 12 13 14 15 16))\n{}",
@@ -222,7 +223,7 @@ fn starred() -> Vec<Edge> {
     let first = format!("{HEAD}(steps (times 12 1))\n(show)\n(steps (times 24 2))\n(show)\n(steps 1 2 3 4)\n");
     vec![
         Edge { name: "the document's first sheet", sheet: first.into_bytes() },
-        Edge { name: "circling", sheet: circle.into() },
+        Edge { name: "circling", sheet: format!("{CIRCLING}(show)\n(steps 1 2 3)\n").into_bytes() },
         Edge { name: "equal figures", sheet: equal.into() },
         Edge { name: "far more output than input", sheet: longest.into_bytes() },
     ]

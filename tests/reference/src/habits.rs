@@ -1,11 +1,10 @@
 //! Halting habits, most of them made at random: rounds that can be played, rounds that break a rule, and lists of any bytes.
 
-use crate::bytes::length;
-use crate::calls;
 use crate::halts::{Halts, ROUND_END};
 use crate::pairs::Pair;
 use crate::random::Random;
 use crate::sheet::{LONGEST_LINE, LONGEST_SHEET};
+use crate::starts;
 
 /// Rounds that every board of n stations can play.
 pub fn made(r: &mut Random, n: u8, longest: usize) -> Halts {
@@ -77,12 +76,7 @@ pub fn rising_lines() -> String {
 
 /// A fresh board on which every station has proposed one of these.
 pub fn rising(n: u8, k: u8) -> Vec<u8> {
-    let mut board = vec![0; length(n, k)];
-    calls::lay(&mut board, n, k).expect("the sizes are in range");
-    for station in 1..=n {
-        calls::propose(&mut board, station, rising_figure(station)).expect("it is idle");
-    }
-    board
+    starts::proposed(n, k, &rising_pairs()[..n as usize])
 }
 
 /// Rounds in which, on a board with rising figures, every station takes all its 3n + 3 steps on all K islands. On each
@@ -191,7 +185,7 @@ fn length_of(lines: &[String]) -> usize {
 /// Two sheets of which one has rounds where the other has their single steps, as far as a sheet goes. Both show the same.
 pub fn twins(seed: u64) -> [Vec<u8>; 2] {
     let mut r = Random::new(seed);
-    let (n, k) = r.size();
+    let (n, k) = r.laid_size();
     let mut head = vec![format!("(board {n} {k})")];
     let one_above = r.once_in(2);
     for (at, figure) in figures(&mut r, n, one_above).iter().enumerate() {

@@ -4,7 +4,9 @@
 
 use crate::figure::Figure;
 use crate::habits::contended;
+use crate::pairs::Pair;
 use crate::random::Random;
+use crate::starts;
 
 #[derive(Clone, Copy, PartialEq, Eq, Debug)]
 pub enum Part {
@@ -18,6 +20,17 @@ pub struct List {
     pub n: u8,
     pub k: u8,
     pub parts: Vec<Part>,
+}
+
+impl List {
+    /// What the start holds of two stations, on which the list's own proposals are refused.
+    pub fn held(&self) -> Vec<Pair> {
+        let proposals = self.parts.iter().filter_map(|part| match *part {
+            Part::Propose(station, figure) => Some((station, figure)),
+            Part::Steps(..) => None,
+        });
+        starts::held(self.n, proposals)
+    }
 }
 
 /// A list of which all accepted proposals are of these figures.

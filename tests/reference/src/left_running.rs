@@ -1,11 +1,12 @@
 //! How many of its own steps a station needs: left alone on a board that calls reached, and beside others that propose its
 //! figure. Any engine is asked by single steps, on the lists of `halted_lists`. `batches` and `tests/left_running.rs` use it.
 
-use crate::bytes::{length, Fields};
+use crate::bytes::Fields;
 use crate::compare::Compare;
 use crate::engine::{Engine, Reference};
 use crate::halted_lists::{all_built, different, made, List, Part};
 use crate::random::Random;
+use crate::starts;
 
 /// The steps of a whole pass through m, A and B.
 pub fn pass(n: u8) -> usize {
@@ -114,9 +115,7 @@ pub fn judged(before: &[u8], station: u8, run: &Alone) -> Result<Ended, String> 
 }
 
 pub fn laid(engine: &dyn Engine, list: &List) -> Vec<u8> {
-    let mut board = vec![0; length(list.n, list.k)];
-    engine.lay(&mut board, list.n, list.k);
-    board
+    starts::laid(engine, list.n, list.k, &list.held())
 }
 
 /// The steps of a part as one run.
@@ -184,7 +183,8 @@ impl OneFigure<'_> {
 /// A list whose accepted proposals are all of one figure, and then all stations in turn until they have decided. Answers how
 /// many have, and the board.
 pub fn one_figure(engine: &dyn Engine, list: &List, figure: i32) -> Result<(u64, Vec<u8>), String> {
-    let (board, taken) = (laid(engine, list), vec![None; list.n as usize]);
+    let (board, mut taken) = (laid(engine, list), vec![None; list.n as usize]);
+    list.held().iter().for_each(|(station, _)| taken[*station as usize - 1] = Some(0));
     let mut stations = OneFigure { engine, board, figure, taken };
     for part in &list.parts {
         match *part {

@@ -4,8 +4,8 @@
 //! was read. `figure` has the order of figures. `bytes` turns a board of bytes into fields and fields into values, and
 //! back. `sound` lists the clauses of soundness, `halts` has the rounds in which stations are suspended, `pairs` the figures
 //! that are put in together. `calls` are the library's calls, `sheet` the program's, and `tapes` has a sheet's own tape and who
-//! is blamed where two tapes differ. `on_values` is what wrong engines are made of, which a comparison must find. The rest
-//! makes boards, lists, sheets and tapes to compare.
+//! is blamed where two tapes differ. `starts` has the boards that runs start from, those of two stations too. `on_values` is
+//! what wrong engines are made of, which a comparison must find. The rest makes boards, lists, sheets and tapes to compare.
 
 pub mod batches;
 pub mod boards;
@@ -47,7 +47,11 @@ pub mod sheet;
 pub mod sheets;
 pub mod shorten;
 pub mod sound;
+pub mod starts;
 pub mod tape_batches;
 pub mod tape_edges;
 pub mod tapes;
+pub mod two_edges;
+pub mod two_runs;
+pub mod two_stations;
 pub mod verdicts;

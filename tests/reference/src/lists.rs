@@ -1,6 +1,5 @@
 //! Demand 3, "Any list of calls": a list, what its calls say of the stations, and what is claimed of that.
 
-use crate::bytes::length;
 use crate::calls;
 use crate::engine::Engine;
 use crate::halts::Halts;
@@ -8,6 +7,7 @@ use crate::model::Answer;
 use crate::pairs::{word, Pair};
 use crate::random::Random;
 use crate::recount::Recount;
+use crate::starts;
 
 #[derive(Clone, PartialEq, Eq, Debug)]
 pub enum Call {
@@ -27,7 +27,19 @@ pub struct List {
     pub calls: Vec<Call>,
 }
 
-/// What a station did by the calls of the list.
+impl List {
+    /// What the start holds of two stations, on which the list's own proposals are refused.
+    pub fn held(&self) -> Vec<Pair> {
+        let proposals = self.calls.iter().flat_map(|call| match call {
+            Call::Propose(station, figure) => vec![(*station, *figure)],
+            Call::ProposeAll(pairs) => pairs.clone(),
+            _ => vec![],
+        });
+        starts::held(self.n, proposals)
+    }
+}
+
+/// What a station did by the calls of the list, or by the start that holds its proposal.
 #[derive(Clone, Copy, PartialEq, Eq, Debug, Default)]
 pub struct Deeds {
     pub proposed: Option<i32>,
@@ -50,10 +62,11 @@ pub struct Played {
 
 /// The list played by an engine's calls, one at a time on the board that the one before left.
 pub fn play(engine: &dyn Engine, list: &List) -> Played {
-    let deeds = vec![Deeds::default(); list.n as usize];
-    let board = vec![0; length(list.n, list.k)];
+    let held = list.held();
+    let mut deeds = vec![Deeds::default(); list.n as usize];
+    held.iter().for_each(|(station, figure)| deeds[*station as usize - 1].proposed = Some(*figure));
+    let board = starts::laid(engine, list.n, list.k, &held);
     let mut played = Played { board, deeds, recount: Recount::new(list.n), unlike: None };
-    engine.lay(&mut played.board, list.n, list.k);
     for call in &list.calls {
         match call {
             Call::Lay(n, k) => played.lay(engine, *n, *k),
@@ -131,15 +144,14 @@ fn note(deeds: &mut Deeds, answer: u64) {
 }
 
 /// "For each station in turn, the figure it proposed in the list is proposed and the station is stepped until a step
-/// of it answers decided or spent; then the next begins."
+/// of it answers decided or spent; then the next begins." On two stations the figure is put in by hand.
 pub fn sequential(n: u8, k: u8, order: &[(u8, i32)]) -> Vec<Option<i32>> {
-    let mut board = vec![0; length(n, k)];
-    calls::lay(&mut board, n, k).expect("the sizes are in range");
+    let mut board = starts::fresh(n, k);
     order.iter().map(|(i, v)| alone(&mut board, *i, *v)).collect()
 }
 
 fn alone(board: &mut [u8], station: u8, figure: i32) -> Option<i32> {
-    calls::propose(board, station, figure).ok()?;
+    starts::put_in(board, station, figure).then_some(())?;
     loop {
         match calls::step(board, station).ok()? {
             Answer::Decided(_, v, _) => return Some(v),

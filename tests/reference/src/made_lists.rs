@@ -7,36 +7,40 @@ use crate::pair_lists;
 use crate::pairs::Pair;
 use crate::random::Random;
 
-/// A list with bursts of steps, in which stations stop for a stretch or for good.
+/// A list on a board of any size.
 pub fn make(seed: u64) -> List {
     let mut r = Random::new(seed);
     let (n, k) = r.size();
-    let k = if n > 8 { k.min(8) } else { k };
+    of_size(&mut r, n, if n > 8 { k.min(8) } else { k })
+}
+
+/// A list with bursts of steps, in which stations stop for a stretch or for good.
+pub fn of_size(r: &mut Random, n: u8, k: u8) -> List {
     let bursts = if r.once_in(30) { 0 } else { r.between(1, 24 * n as usize) };
-    let awake = windows(&mut r, n, bursts);
+    let awake = windows(r, n, bursts);
     let figures: Vec<i32> = (0..r.between(1, 3)).map(|_| r.figure()).collect();
     let mut list = List { n, k, calls: vec![] };
     let by_rounds = r.once_in(3);
     let whole_turns = by_rounds || r.once_in(2);
     if n > 1 && r.once_in(4) {
-        circle(&mut r, &mut list);
+        circle(r, &mut list);
     }
-    list.calls.extend(proposals(&mut r, n, &figures));
+    list.calls.extend(proposals(r, n, &figures));
     for at in 0..bursts {
         let station = r.between(1, n as usize) as u8;
         if r.once_in(12) {
             let figure = r.pick(&figures);
-            list.calls.push(odd(&mut r, n, figure));
+            list.calls.push(odd(r, n, figure));
         }
         let (from, to, gone) = awake[station as usize - 1];
         if at >= gone || (from..to).contains(&at) {
             continue;
         }
         if by_rounds && r.once_in(n as usize) {
-            list.calls.push(Call::Rounds(rounds(&mut r, n)));
+            list.calls.push(Call::Rounds(rounds(r, n)));
             continue;
         }
-        let count = burst(&mut r, n as usize, whole_turns);
+        let count = burst(r, n as usize, whole_turns);
         list.calls.extend(std::iter::repeat_n(Call::Step(station), count));
     }
     list
@@ -113,7 +117,7 @@ fn odd(r: &mut Random, n: u8, figure: i32) -> Call {
             (r.between(0, n as usize + 1) as u8, figure),
             (r.between(1, n as usize) as u8, figure),
         ]),
-        1 => Call::Lay(r.pick(&[0, 17]), 2),
+        1 => Call::Lay(r.pick(&[0, 2, 17]), 2),
         2 => Call::Lay(n, r.pick(&[0, 1, 65])),
         _ => Call::Propose(r.between(0, n as usize + 1) as u8, figure),
     }
@@ -122,18 +126,17 @@ fn odd(r: &mut Random, n: u8, figure: i32) -> Call {
 #[cfg(test)]
 mod tests {
     use super::*;
-    use crate::bytes::length;
     use crate::calls;
     use crate::engine::Reference;
     use crate::lists::{play, Deeds};
+    use crate::starts;
 
     /// Rounds are played and refused in the made lists, and some of them decide; pairs are put in and refused.
     #[test]
     fn some_lists_have_rounds_and_pairs() {
-        let (mut played, mut together) = ([0; 21], [0; 21]);
+        let (mut played, mut together) = ([0; 23], [0; 23]);
         for list in (0..600).map(make) {
-            let mut board = vec![0; length(list.n, list.k)];
-            calls::lay(&mut board, list.n, list.k).expect("the sizes are in range");
+            let mut board = starts::laid(&Reference, list.n, list.k, &list.held());
             for call in &list.calls {
                 match call {
                     Call::Rounds(halts) => {
@@ -151,7 +154,7 @@ mod tests {
             }
         }
         assert!(played[0] > 100 && played[1] > 100 && played[18] > 100 && played[19] > 10, "{played:?}");
-        assert!(together[0] > 100 && [12, 13, 20].iter().all(|number| together[*number] > 50), "{together:?}");
+        assert!(together[0] > 100 && [12, 13, 20, 22].iter().all(|number| together[*number] > 50), "{together:?}");
     }
 
     #[test]

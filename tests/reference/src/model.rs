@@ -31,6 +31,9 @@ pub struct Collect {
     pub met: u8,
 }
 
+/// So many stations are not laid, and take no proposal on a board that has them.
+pub const TOO_FEW: u8 = 2;
+
 /// What a station has with it in every phase after its proposal.
 #[derive(Clone, Copy, PartialEq, Eq, Debug)]
 pub struct Life {
@@ -194,14 +197,28 @@ impl World {
         Ok(station - 1)
     }
 
-    /// "A proposal sets an idle station to phase 1, c = 0, proposal and carried = the figure."
-    pub fn propose(&mut self, who: usize, figure: i32) -> Result<(), Refusal> {
+    /// 12, then "between 12 and 13: 22, a proposal on a two-station board", then 13.
+    pub fn proposer(&self, station: u8) -> Result<usize, Refusal> {
+        let who = self.place(station)?;
+        if self.stations.len() == TOO_FEW as usize {
+            return Err(Refusal::TwoStations);
+        }
         if self.stations[who] != Station::Idle {
             return Err(Refusal::NotIdle);
         }
+        Ok(who)
+    }
+
+    pub fn propose(&mut self, station: u8, figure: i32) -> Result<(), Refusal> {
+        let who = self.proposer(station)?;
+        self.put_in(who, figure);
+        Ok(())
+    }
+
+    /// "A proposal sets an idle station to phase 1, c = 0, proposal and carried = the figure." Nothing is asked before.
+    pub fn put_in(&mut self, who: usize, figure: i32) {
         self.stations[who] = Station::WriteM(Life { proposal: figure, island: 0, carried: figure });
         self.steps[who] = 0;
-        Ok(())
     }
 
     /// One register write or one register read of one station.

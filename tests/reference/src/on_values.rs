@@ -33,7 +33,7 @@ pub trait OnValues {
     }
 
     fn proposed(&self, apart: &mut Apart, station: u8, figure: i32) -> Result<(), Refusal> {
-        apart.world.propose(apart.world.place(station)?, figure)
+        apart.world.propose(station, figure)
     }
 
     fn stepped(&self, apart: &mut Apart, station: u8, by: By) -> Result<u64, Refusal>;

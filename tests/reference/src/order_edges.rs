@@ -5,12 +5,12 @@ use crate::figure::EDGES;
 use crate::sheets::{circle, meeting_lines};
 
 /// Both have written to m before one of them reads there; and again, with the lower one on its way before the higher one
-/// comes, so that they meet in A. They change places, because a collect reads in rising order.
+/// comes, so that they meet in A. They change places, because a collect reads in rising order. The third stays idle.
 fn of_two(low: i32, high: i32, first: u8) -> String {
     let second = 3 - first;
-    let head = format!("(board 2 2)\n(propose {first} {low})\n(propose {second} {high})\n");
-    let in_m = "(steps 1 2 (times 2 1 2))\n(show)\n";
-    let in_a = format!("(steps (times 3 {first}) (times 3 {second}) 1 2 (times 2 1 2))\n(show)\n");
+    let head = format!("(board 3 2)\n(propose {first} {low})\n(propose {second} {high})\n");
+    let in_m = "(steps 1 2 (times 3 1 2))\n(show)\n";
+    let in_a = format!("(steps (times 4 {first}) (times 4 {second}) 1 2 (times 3 1 2))\n(show)\n");
     format!("{head}{in_m}{head}{in_a}")
 }
 

@@ -2,32 +2,26 @@
 //! proposals.
 
 use crate::boards;
-use crate::bytes::{length, Fields};
+use crate::bytes::Fields;
 use crate::compare::{Call, Compare};
 use crate::engine::SHOWN;
 use crate::line_batches::printed;
 use crate::pair_lists::{idle, lines, odd, some, with_figures, words};
 use crate::pairs::{named_twice, word, Pair};
 use crate::random::Random;
+use crate::starts::fresh;
 
 fn packed(pairs: &[Pair]) -> Vec<u64> {
     pairs.iter().copied().map(word).collect()
 }
 
 /// A fresh board, or a sound one on which some are idle.
-fn start(r: &mut Random) -> Vec<u8> {
-    let (n, k) = r.size();
+fn start(r: &mut Random, (n, k): (u8, u8)) -> Vec<u8> {
     if r.once_in(3) {
         fresh(n, k)
     } else {
         boards::half_idle(r, n, k)
     }
-}
-
-fn fresh(n: u8, k: u8) -> Vec<u8> {
-    let mut board = vec![0; length(n, k)];
-    crate::calls::lay(&mut board, n, k).expect("the sizes are in range");
-    board
 }
 
 /// Seven stations: the odd ones are idle, 2 is going, 4 has decided and 6 is spent.
@@ -57,7 +51,8 @@ impl Compare<'_> {
     /// A board driven on by lists of pairs, single proposals and steps.
     pub fn put_in(&mut self, seed: u64) {
         let mut r = Random::new(seed);
-        let board = start(&mut r);
+        let size = r.size();
+        let board = start(&mut r, size);
         let n = board[0];
         let (mut ours, mut theirs) = self.copies(&board);
         for _ in 0..r.between(1, 10) {
@@ -78,7 +73,8 @@ impl Compare<'_> {
     /// of a sheet. All by the engine itself.
     pub fn in_any_order(&mut self, seed: u64) {
         let mut r = Random::new(seed);
-        let board = start(&mut r);
+        let size = r.laid_size();
+        let board = start(&mut r, size);
         let pairs = some(&mut r, &idle(&board));
         let (mut together, mut by_lines) = (board.clone(), board.clone());
         let answer = self.engine.propose_all(&mut together, &mut packed(&pairs));
@@ -102,7 +98,8 @@ impl Compare<'_> {
     /// of its single proposals that is refused. All by the engine itself.
     pub fn all_or_none(&mut self, seed: u64) {
         let mut r = Random::new(seed);
-        let board = start(&mut r);
+        let size = r.size();
+        let board = start(&mut r, size);
         let n = board[0];
         let pairs = odd(&mut r, n, &idle(&board), &[0, n + 1, 17, 99]);
         let [mut together, mut single, mut by_line] = [(); 3].map(|()| board.clone());

@@ -134,9 +134,10 @@ fn among_others() -> Vec<String> {
         "(board 4 2)", "(propose (4 -40) (2 15))", "(show)", "(propose 2 15)", "(propose (2 15))", "(steps 2 4 1 3)",
         "(propose (1 7) (4 1))", "(propose (3 7) (1 0))", "(show)", "(rounds 0 ())", "(steps (times 4 2 4))", "(rounds 0 () () ())",
         "(show)", "(propose (1 1) (2 2) (3 3) (4 4))", "(propose (5 1) (5 1))", "(propose (1 1) (5 5))", "(propose (5 5) (1 1))",
-        "(rounds 0 () () ())", "(show)", "(propose (1 1))", "(board 1 2)", "(propose (1 1))", "(steps (times 6 1))", "(propose (1 1))",
-        "(show)", "(board 2 2)", "(propose (1 7) (2 3))", "(steps (times 2 (times 3 2) (times 3 1) (times 3 2) (times 6 1) (times 3 2)))",
-        "(show)", "(propose (2 1))", "(propose (3 1) (2 1))", "(propose (2 1) (3 1))",
+        "(rounds 0 () () ())", "(show)", "(propose (1 1))", "(board 1 2)", "(propose (1 1))", "(steps (times 6 1))",
+        "(propose (1 1))", "(show)", "(board 3 2)", "(propose (1 7) (2 3))",
+        "(steps (times 2 (times 4 2) (times 4 1) (times 4 2) (times 8 1) (times 4 2)))",
+        "(show)", "(propose (2 1))", "(propose (4 1) (2 1))", "(propose (2 1) (4 1))", "(propose (3 1) (2 1))",
     ])
 }
 

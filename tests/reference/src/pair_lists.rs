@@ -124,7 +124,7 @@ pub fn twins(seed: u64) -> [Vec<u8>; 2] {
     let mut r = Random::new(seed);
     let mut sheets = [(); 2].map(|()| Vec::new());
     for _ in 0..r.between(1, 4) {
-        let (n, k) = r.size();
+        let (n, k) = r.laid_size();
         let mut stations: Vec<u8> = (1..=n).collect();
         r.shuffle(&mut stations);
         sheets.iter_mut().for_each(|sheet| sheet.push(format!("(board {n} {k})")));
@@ -163,9 +163,9 @@ mod tests {
     #[test]
     fn what_is_made() {
         let mut r = Random::new(51);
-        let mut refused = [0; 21];
+        let mut refused = [0; 23];
         for _ in 0..3000 {
-            let (n, k) = (r.between(1, 16) as u8, 2);
+            let (n, k) = (r.pick(&[1, 3, 4, 5, 6, 7, 8, 9, 10, 11, 12, 13, 14, 15, 16]), 2);
             let board = boards::sound(&mut r, n, k);
             let idle = idle(&board);
             let pairs = some(&mut r, &idle);

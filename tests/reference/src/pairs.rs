@@ -1,7 +1,7 @@
 //! Figures put in together: "`(propose (1 -40) (2 15))`, at least one pair. All are accepted or none, and the board
 //! afterwards equals that of single proposals in any order."
 
-use crate::model::{Station, World};
+use crate::model::World;
 use crate::refusal::Refusal;
 
 /// A station and its figure.
@@ -36,20 +36,18 @@ pub fn named_twice(pairs: &[Pair]) -> bool {
 
 impl World {
     /// "It refuses before 12: 20 .. Then pairs are tried as written, 12 before 13 in each, and the first fault is answered."
+    /// Between the two stands 22.
     pub fn tried(&self, pairs: &[Pair]) -> Result<(), Refusal> {
         if named_twice(pairs) {
             return Err(Refusal::NamedTwice);
         }
-        pairs.iter().try_for_each(|(station, _)| match self.stations[self.place(*station)?] {
-            Station::Idle => Ok(()),
-            _ => Err(Refusal::NotIdle),
-        })
+        pairs.iter().try_for_each(|(station, _)| self.proposer(*station).map(|_| ()))
     }
 
     /// Single proposals, once it is known that all of them will be accepted.
     pub fn propose_all(&mut self, pairs: &[Pair]) -> Result<(), Refusal> {
         self.tried(pairs)?;
-        pairs.iter().try_for_each(|(station, figure)| self.propose(self.place(*station)?, *figure))
+        pairs.iter().try_for_each(|(station, figure)| self.propose(*station, *figure))
     }
 }
 

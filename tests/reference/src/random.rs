@@ -1,6 +1,7 @@
 //! A small deterministic generator (splitmix64): the same seed makes the same case on every machine.
 
 use crate::figure::Figure;
+use crate::model::TOO_FEW;
 
 #[derive(Clone)]
 pub struct Random {
@@ -92,6 +93,16 @@ impl Random {
             _ => self.between(2, 4),
         };
         (n as u8, k as u8)
+    }
+
+    /// The same of boards that can be laid: two stations are too few.
+    pub fn laid_size(&mut self) -> (u8, u8) {
+        loop {
+            let (n, k) = self.size();
+            if n != TOO_FEW {
+                return (n, k);
+            }
+        }
     }
 
     pub fn shuffle<T>(&mut self, list: &mut [T]) {

@@ -1,4 +1,5 @@
-//! Why a call is turned down, in checking order; 18 and 19 are tested after 11, 20 between 11 and 12, and 21 after 1.
+//! Why a call is turned down, in checking order; 18 and 19 are tested after 11, 20 between 11 and 12, 21 after 1, and 22
+//! between 12 and 13.
 
 #[derive(Clone, Copy, PartialEq, Eq, Debug)]
 #[repr(u8)]
@@ -24,6 +25,7 @@ pub enum Refusal {
     BadRound = 19,
     NamedTwice = 20,
     NoStepAnswer = 21,
+    TwoStations = 22,
 }
 
 impl Refusal {

@@ -1,13 +1,14 @@
 //! Which rounds are compared: on boards of every kind, with lists of every kind, and beside their own single steps.
 
 use crate::boards;
-use crate::bytes::length;
 use crate::compare::{Call, Compare};
 use crate::engine::SHOWN;
 use crate::habits;
 use crate::halts::ROUND_END;
 use crate::line_batches;
+use crate::pairs::Pair;
 use crate::random::Random;
+use crate::starts;
 
 /// The bytes at which a list's meaning changes, for a board of two stations.
 const BYTES: [u8; 6] = [0, 1, 2, 3, 254, ROUND_END];
@@ -114,15 +115,10 @@ fn start(r: &mut Random, n: u8, k: u8) -> Vec<u8> {
     if r.once_in(2) {
         return boards::between_collects(r, n, k);
     }
-    let mut board = vec![0; length(n, k)];
-    crate::calls::lay(&mut board, n, k).expect("the sizes are in range");
     let one_above = r.once_in(2);
-    for (at, figure) in habits::figures(r, n, one_above).into_iter().enumerate() {
-        if one_above || !r.once_in(8) {
-            crate::calls::propose(&mut board, at as u8 + 1, figure).expect("it is idle");
-        }
-    }
-    board
+    let mut pairs: Vec<Pair> = (1..).zip(habits::figures(r, n, one_above)).collect();
+    pairs.retain(|_| one_above || !r.once_in(8));
+    starts::proposed(n, k, &pairs)
 }
 
 /// How many records are in phase 7.

@@ -1,5 +1,6 @@
 //! Sheets made at random: lines that are forms, and lines that are forms no more.
 
+use crate::calls::laid_counts;
 use crate::habits;
 use crate::pair_lists;
 use crate::random::Random;
@@ -25,7 +26,7 @@ pub fn sheet(seed: u64) -> Vec<u8> {
     let spoil = r.pick(&[0, 0, 0, 4, 12, 40]);
     let heavy = r.once_in(6);
     let mut out = Vec::new();
-    let mut laid = Laid { n: 2, lines_left: 0, soon: vec![], whole_turns: false };
+    let mut laid = Laid { n: 3, lines_left: 0, soon: vec![], whole_turns: false };
     for at in 0..lines {
         let mut line =
             if at == 0 && !r.once_in(20) { board(&mut r, &mut laid) } else { form(&mut r, &mut laid, heavy) };
@@ -42,6 +43,13 @@ pub fn sheet(seed: u64) -> Vec<u8> {
         out.pop();
     }
     out
+}
+
+/// So many lines for a board of n stations that is there already.
+pub fn lines_on(r: &mut Random, n: usize, count: usize) -> Vec<Vec<u8>> {
+    let soon = if n > 1 && r.once_in(2) { circling(r, n) } else { vec![] };
+    let mut laid = Laid { n, lines_left: count, soon, whole_turns: r.once_in(2) };
+    (0..count).map(|_| form(r, &mut laid, false)).collect()
 }
 
 fn form(r: &mut Random, laid: &mut Laid, heavy: bool) -> Vec<u8> {
@@ -67,7 +75,7 @@ fn form(r: &mut Random, laid: &mut Laid, heavy: bool) -> Vec<u8> {
 }
 
 fn board(r: &mut Random, laid: &mut Laid) -> Vec<u8> {
-    let (n, k) = r.size();
+    let (n, k) = r.laid_size();
     let soon = match r.below(8) {
         0 | 1 if n > 1 => circling(r, n as usize),
         2 if n > 2 => meeting(r, n as usize),
@@ -130,9 +138,9 @@ fn neighbour(i: usize, n: usize) -> usize {
 
 /// Numbers at the ends of every range, so that most of these are refused between accepted ones.
 fn odd_board(r: &mut Random, laid: &mut Laid) -> Vec<u8> {
-    let n = r.pick(&[0, 1, 16, 17, 18, 50, 99, 100]);
-    let k = r.pick(&[0, 1, 2, 64, 65, 99, 100, 128]);
-    if (1..=16).contains(&n) && (2..=64).contains(&k) {
+    let n = r.pick(&[0, 1, 2, 2, 16, 17, 18, 50, 99, 100]);
+    let k = r.pick(&[0, 1, 2, 2, 3, 64, 65, 99, 100, 128]);
+    if laid_counts(n as u8, k).is_ok() {
         laid.n = n;
     }
     format!("(board {n} {k})").into_bytes()

@@ -136,29 +136,30 @@ pub fn far_sheet(boards: usize) -> Vec<u8> {
     format!("(board 16 64)\n{pairs}{}", round_lines(&contended(16, 64))).repeat(boards).into_bytes()
 }
 
-/// The document's second run, of which the tape has every kind but *decided*.
-pub const CIRCLING: &str = "(board 2 2)\n(propose 1 7)\n(propose 2 3)\n\
-                            (steps (times 2 (times 3 2) (times 3 1) (times 3 2) (times 6 1) (times 3 2)))\n";
+/// The document's second run by two of three stations, of which the tape has every kind but *decided*.
+pub const CIRCLING: &str = "(board 3 2)\n(propose 1 7)\n(propose 2 3)\n\
+                            (steps (times 2 (times 4 2) (times 4 1) (times 4 2) (times 8 1) (times 4 2)))\n";
 
 pub const ALONE: &str = "(board 1 2)\n(propose 1 -9)\n(steps (times 6 1))\n";
 
-/// Two stations that have proposed.
-const HEAD: &str = "(board 2 3)\n(propose (1 7) (2 -3))\n";
+/// Three stations, of which two have proposed.
+const HEAD: &str = "(board 3 3)\n(propose (1 7) (2 -3))\n";
 
 /// Lines behind that head.
-const BEHIND_HEAD: [(&str, &[&str]); 12] = [
-    ("layings refused", &["(board 0 2)", "(steps 1)", "(board 17 2)", "(steps 2)", "(board 2 1)", "(steps 1)"]),
-    ("proposals refused", &["(propose 1 1)", "(propose 3 3)", "(propose (2 1) (2 1))", "(steps (times 9 1 2))"]),
-    ("steps refused", &["(steps 0 1 3 2 99 1)", "(steps (times 40 1 2 0 3))", "(steps 1 2)"]),
+const BEHIND_HEAD: [(&str, &[&str]); 13] = [
+    ("layings refused", &["(board 0 2)", "(steps 1)", "(board 17 2)", "(steps 2)", "(board 3 1)", "(steps 1)"]),
+    ("layings of two stations", &["(board 2 2)", "(steps 1)", "(board 2 1)", "(propose 3 1)", "(steps 3 1 2)"]),
+    ("proposals refused", &["(propose 1 1)", "(propose 4 3)", "(propose (2 1) (2 1))", "(steps (times 12 1 2))"]),
+    ("steps refused", &["(steps 0 1 4 2 99 1)", "(steps (times 50 1 2 0 3 4))", "(steps 1 2)"]),
     ("too many steps", &["(steps 1)", "(steps (times 65537 1))", "(steps 2 (times 65536 1))", "(steps 2)"]),
     ("as many as a line may have", &["(steps (times 32768 1 2))"]),
     ("nested", &["(steps (times 3 2 (times 2 1)) (times 2 1))", "(steps (times 2 (times 1 (times 3 1 (times 2 2)))))"]),
     ("too deep", &["(steps (times 1 (times 1 (times 1 (times 1 (times 1 (times 1 (times 1 (times 1 1", "(steps 2)"]),
     ("rounds", &["(rounds 1 (1) () (2) ())", "(rounds 2 (1 2))", "(rounds 0)", "(rounds 0 () () ())"]),
-    ("rounds amid collects", &["(steps 1)", "(rounds 0 ())", "(rounds 1 (1))", "(steps 1 1)", "(rounds 0 ())"]),
+    ("rounds amid collects", &["(steps 1)", "(rounds 0 ())", "(rounds 1 (1))", "(steps 1 1 1)", "(rounds 0 ())"]),
     (
         "rounds refused",
-        &["(rounds 0 () (1))", "(rounds 2 () (2 1))", "(rounds 1 () (3))", "(rounds 1 (0))", "(steps 1)"],
+        &["(rounds 0 () (1))", "(rounds 2 () (2 1))", "(rounds 1 () (4))", "(rounds 1 (0))", "(steps 1)"],
     ),
     (
         "no line that is a form",

@@ -3,7 +3,7 @@
 //! Sheets and steps are those of `sheet` and `model`, played on values: no board of bytes is made.
 
 use crate::bytes::mark_byte;
-use crate::calls::{counts, MOST_STEPS};
+use crate::calls::{laid_counts, MOST_STEPS};
 use crate::model::{Answer, Mark, World};
 use crate::refusal::Refusal;
 use crate::sheet::{self, expanded, expansion, Form, LONGEST_SHEET};
@@ -75,13 +75,13 @@ fn small(word: &str) -> Option<u8> {
 /// A form on the board that was laid last. What is refused leaves the board and the tape as they are.
 fn play(form: Form, board: &mut Option<World>, tape: &mut Vec<Taped>) -> Result<(), Refusal> {
     if let Form::Board(n, k) = form {
-        counts(n, k)?;
+        laid_counts(n, k)?;
         *board = Some(World::fresh(n as usize, k as usize));
         return Ok(());
     }
     let world = board.as_mut().ok_or(Refusal::NoBoardYet)?;
     match form {
-        Form::Propose(station, figure) => world.propose(world.place(station)?, figure)?,
+        Form::Propose(station, figure) => world.propose(station, figure)?,
         Form::ProposeAll(pairs) => world.propose_all(&pairs)?,
         Form::Steps(items) if expansion(&items) > MOST_STEPS as u128 => return Err(Refusal::TooManySteps),
         Form::Steps(items) => step_all(world, &expanded(&items), tape),

@@ -2,21 +2,13 @@
 //! that no run need reach.
 
 use reference::boards::{sound, standing_at, Place};
-use reference::bytes::{length, Cell, Fields, Record};
+use reference::bytes::{Cell, Fields, Record};
 use reference::calls;
 use reference::engine::{packed_answer, Engine, Reference};
 use reference::model::{Answer, Mark};
 use reference::random::Random;
 use reference::sound::broken;
-
-fn laid(n: u8, k: u8, figures: &[i32]) -> Vec<u8> {
-    let mut board = vec![0; length(n, k)];
-    calls::lay(&mut board, n, k).unwrap();
-    for (at, figure) in figures.iter().enumerate() {
-        calls::propose(&mut board, at as u8 + 1, *figure).unwrap();
-    }
-    board
-}
+use reference::starts::with_figures;
 
 fn steps(board: &mut [u8], station: u8, count: usize) -> Vec<Answer> {
     (0..count).map(|_| calls::step(board, station).unwrap()).collect()
@@ -40,7 +32,7 @@ fn total(answer: Answer) -> Option<u8> {
 #[test]
 fn the_first_sheet() {
     use Answer::*;
-    let mut board = laid(3, 2, &[-40, 15]);
+    let mut board = with_figures(3, 2, &[-40, 15]);
     let pass = |second: bool, total: u8| {
         let collect = [Wrote, Read(true), Read(second)];
         let ends = [Went(0, -40, total), Marked(Mark::Commit, -40, total), Decided(0, -40, total)];
@@ -53,7 +45,7 @@ fn the_first_sheet() {
 /// The byte grows where a filled register is met, and is 0 once the collect is over.
 #[test]
 fn the_byte_along_a_pass() {
-    let mut board = laid(3, 2, &[-40, 15]);
+    let mut board = with_figures(3, 2, &[-40, 15]);
     let mut bytes = |station| {
         let mut byte = || {
             steps(&mut board, station, 1);
@@ -68,7 +60,7 @@ fn the_byte_along_a_pass() {
 /// With one station a collect has its last read alone: there is no *read*, every total is 1, and the byte stays 0.
 #[test]
 fn one_station() {
-    let mut board = laid(1, 2, &[-9]);
+    let mut board = with_figures(1, 2, &[-9]);
     let mut answers = Vec::new();
     for _ in 0..6 {
         answers.extend(steps(&mut board, 1, 1));
@@ -81,7 +73,7 @@ fn one_station() {
 /// Two that circle meet each other's registers but where one is ahead; those that adopt and are spent tell it too.
 #[test]
 fn adopted_and_spent() {
-    let mut board = laid(2, 2, &[7, 3]);
+    let mut board = with_figures(2, 2, &[7, 3]);
     let mut ends = Vec::new();
     for _ in 0..2 {
         for (station, count) in [(2, 3), (1, 3), (2, 3), (1, 6), (2, 3)] {
@@ -101,7 +93,7 @@ fn adopted_and_spent() {
 #[test]
 fn filled_behind_the_reader_or_before_it() {
     for (other, total) in [(1, 1), (3, 2)] {
-        let mut board = laid(3, 2, &[5, 5, 5]);
+        let mut board = with_figures(3, 2, &[5, 5, 5]);
         assert_eq!(steps(&mut board, 2, 2), [Answer::Wrote, Answer::Read(false)]);
         assert_eq!(steps(&mut board, 2, 1), [Answer::Read(true)]);
         assert_eq!(steps(&mut board, other, 1), [Answer::Wrote]);
@@ -113,7 +105,7 @@ fn filled_behind_the_reader_or_before_it() {
 /// A fresh board with one station amid its collect of m, the registers of all stations as they are said to be filled.
 fn amid(who: usize, record: Record, filled: &[bool]) -> Vec<u8> {
     let n = filled.len() as u8;
-    let mut f = Fields::of_bytes(&laid(n, 2, &[]));
+    let mut f = Fields::of_bytes(&with_figures(n, 2, &[]));
     let cell = Cell { mark: 1, figure: 5, ..Cell::default() };
     f.m = filled.iter().map(|filled| if *filled { cell } else { Cell::default() }).collect();
     f.records[who] = Record { phase: 2, proposal: 5, carried: 5, best: 5 * (record.seen > 0) as i32, ..record };
@@ -206,7 +198,7 @@ fn nothing_else_tells_it() {
 /// Sixteen of sixteen, the most that a total can be, is told by every kind that ends a collect; the byte goes to 15.
 #[test]
 fn sixteen_of_sixteen() {
-    let mut board = laid(16, 2, &(1..=16).collect::<Vec<i32>>());
+    let mut board = with_figures(16, 2, &(1..=16).collect::<Vec<i32>>());
     let mut highest = 0;
     for array in 0..3 {
         (1..=16).for_each(|station| drop(steps(&mut board, station, 1)));

@@ -5,12 +5,13 @@ use reference::boards::sound;
 use reference::bytes::Fields;
 use reference::calls;
 use reference::compare::Compare;
-use reference::engine::{Engine, Reference};
+use reference::engine::Reference;
 use reference::halted_lists::{all_built, behind_one, made, overtaken, Built, List, Part};
-use reference::left_running::{alone, going, highest_island, judged, laid, one_figure, pass, played, Ended};
+use reference::left_running::{alone, going, highest_island, judged, one_figure, pass, played, Ended};
 use reference::model::Standing;
 use reference::random::Random;
 use reference::reach::every_board;
+use reference::starts;
 
 /// The most steps of a station left alone where that must decide, and how many are spent where it need not, over every board
 /// that these figures lead to.
@@ -139,9 +140,8 @@ fn one_figure_whoever_moves() {
 #[test]
 fn before_any_step() {
     for (n, k) in [(1, 2), (2, 64), (7, 3), (16, 64)] {
-        let list = List { n, k, parts: vec![] };
-        let mut board = laid(&Reference, &list);
-        (1..=n).for_each(|station| assert_eq!(Reference.propose(&mut board, station, i32::MIN + station as i32), 0));
+        let mut board = starts::fresh(n, k);
+        (1..=n).for_each(|station| assert!(starts::put_in(&mut board, station, i32::MIN + station as i32)));
         for station in 1..=n {
             let run = alone(&Reference, &board, station);
             assert_eq!(judged(&board, station, &run), Ok(Ended::Untouched));

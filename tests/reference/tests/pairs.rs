@@ -105,7 +105,7 @@ fn refusals_of_a_line() {
 fn any_order() {
     let mut r = Random::new(61);
     for _ in 0..3000 {
-        let (n, k) = r.size();
+        let (n, k) = r.laid_size();
         let board = half_idle(&mut r, n, k);
         let mut pairs = some(&mut r, &idle(&board));
         let mut together = board.clone();
@@ -130,6 +130,7 @@ fn all_or_none() {
         let pairs = odd(&mut r, n, &idle(&board), &[0, n + 1, 255]);
         let fault = |(station, _): &Pair| match calls::standing(&board, *station) {
             Err(refusal) => Some(refusal),
+            Ok(_) if n == 2 => Some(Refusal::TwoStations),
             Ok((Standing::Idle, _)) => None,
             Ok(_) => Some(Refusal::NotIdle),
         };

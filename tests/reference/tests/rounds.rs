@@ -1,7 +1,6 @@
 //! Rounds as the request has them: habits that were found, and sentences about rounds tried on sound boards.
 
 use reference::boards::between_collects;
-use reference::bytes::length;
 use reference::calls;
 use reference::habits;
 use reference::halts::Halts;
@@ -9,16 +8,11 @@ use reference::model::Standing;
 use reference::random::Random;
 use reference::refusal::Refusal;
 use reference::sheet::play;
+use reference::starts::with_figures;
 
 /// A fresh board on which the stations have proposed these figures.
 fn proposed(k: u8, figures: &[i32]) -> Vec<u8> {
-    let n = figures.len() as u8;
-    let mut board = vec![0; length(n, k)];
-    assert!(calls::lay(&mut board, n, k).is_ok());
-    for (at, figure) in figures.iter().enumerate() {
-        assert!(calls::propose(&mut board, at as u8 + 1, *figure).is_ok());
-    }
-    board
+    with_figures(figures.len() as u8, k, figures)
 }
 
 fn one_round(board: &mut [u8], suspended: &[u8]) {

@@ -1,8 +1,11 @@
 //! The runs that the public document prints.
 
 use reference::calls;
+use reference::engine::Reference;
+use reference::line_batches::printed;
 use reference::model::{Answer, Standing};
 use reference::sheet::play;
+use reference::starts::with_figures;
 
 fn plays(sheet: &str, printed: &str) {
     let out = play(sheet.as_bytes());
@@ -45,13 +48,13 @@ fn how_each_station_stands() {
     assert_eq!(number(calls::standing(&board, 0)), 11);
 }
 
+/// On a board "fresh but for the two proposals": no sheet lays it, but its lines play on it.
 #[test]
 fn two_stations_circle_until_they_are_spent() {
-    plays(
-        "(board 2 2)\n(propose 1 7)\n(propose 2 3)\n\
-         (steps (times 2 (times 3 2) (times 3 1) (times 3 2) (times 6 1) (times 3 2)))\n(show)",
-        "(laid 2 2)\n(proposed 1 7)\n(proposed 2 3)\n(ran 36 0)\n(stations (1 spent 1 7) (2 spent 1 3))\n",
-    );
+    let mut board = with_figures(2, 2, &[7, 3]);
+    let line = "(steps (times 2 (times 3 2) (times 3 1) (times 3 2) (times 6 1) (times 3 2)))";
+    assert_eq!(printed(&Reference, line, &mut board), "(ran 36 0)");
+    assert_eq!(calls::show(&board), Ok("(stations (1 spent 1 7) (2 spent 1 3))".to_string()));
 }
 
 #[test]
@@ -79,6 +82,7 @@ fn lengths_and_counts() {
     assert_eq!(number(calls::lay(&mut [0; 16_903], 16, 64)), 10);
     assert_eq!(number(calls::lay(&mut [0; 16_904], 17, 64)), 8);
     assert_eq!(number(calls::lay(&mut [0; 72], 1, 1)), 9);
+    assert_eq!(number(calls::lay(&mut [0; 136], 2, 2)), 8);
     assert_eq!(number(calls::lay(&mut [0; 7], 17, 1)), 7);
     assert_eq!(reference::bytes::length(3, 2), 200);
 }
@@ -87,9 +91,12 @@ fn lengths_and_counts() {
 #[test]
 fn both_ends_of_the_figures() {
     for (one, two) in [(i32::MIN, i32::MAX), (i32::MAX, i32::MIN)] {
-        let sheet = format!("(board 2 2)\n(propose 1 {one})\n(propose 2 {two})\n(steps 1 2 (times 2 1 2))\n(show)\n");
+        let sheet = format!("(board 3 2)\n(propose 1 {one})\n(propose 2 {two})\n(steps 1 2 (times 3 1 2))\n(show)\n");
         let out = String::from_utf8(play(sheet.as_bytes())).unwrap();
-        assert!(out.ends_with("(stations (1 going 0 -2147483648) (2 going 0 -2147483648))\n"), "{out}");
+        assert!(out.ends_with("(stations (1 going 0 -2147483648) (2 going 0 -2147483648) (3 idle))\n"), "{out}");
+        let mut board = with_figures(2, 2, &[one, two]);
+        assert_eq!(calls::run(&mut board, &[1, 2, 1, 2, 1, 2]), Ok((6, 0)));
+        assert_eq!([1, 2].map(|i| calls::standing(&board, i)), [Ok((Standing::Going(0, i32::MIN), 3)); 2]);
     }
 }
 
@@ -113,8 +120,8 @@ fn odd_sheets() {
     plays("(show)", "(refused 5)\n");
     plays("(steps (times 65537 1))", "(refused 5)\n");
     plays("(board 17 70)\n(board 5 1)\n(board 100 2)\n", "(refused 8)\n(refused 9)\n(refused 4)\n");
-    plays("(board 2 2)\n(board 0 5)\n(propose 99 1)\n", "(laid 2 2)\n(refused 8)\n(refused 12)\n");
-    plays("(board 2 2)\n(steps)\n(steps (times 2))\n", "(laid 2 2)\n(ran 0 0)\n(refused 4)\n");
+    plays("(board 3 2)\n(board 0 5)\n(propose 99 1)\n", "(laid 3 2)\n(refused 8)\n(refused 12)\n");
+    plays("(board 3 2)\n(steps)\n(steps (times 2))\n", "(laid 3 2)\n(ran 0 0)\n(refused 4)\n");
     plays(&format!("){}", "(".repeat(9)), "(refused 4)\n");
     plays(&format!("){}", "(".repeat(10)), "(refused 3)\n");
     plays(&" ".repeat(32_769), "(refused 1)\n");

@@ -2,6 +2,7 @@
 
 use reference::model::{Answer, Mark};
 use reference::refusal::Refusal;
+use reference::tape_edges::CIRCLING;
 use reference::tapes::{compared, culprit, own, read, taped, text, Taped};
 
 fn tapes(sheet: &str, lines: &[&str]) {
@@ -45,26 +46,26 @@ fn one_station() {
     assert_eq!(lines_of(ALONE), ALONE_TAPE);
 }
 
-/// The run with 7 and 3: an adopt below the last island carries the next one, on the last island it is spent.
+/// The run with 7 and 3 by two of three stations: an adopt below the last island carries the next one, on the last island it
+/// is spent.
 #[test]
 #[rustfmt::skip]
 fn circling() {
-    let turns = "(steps (times 2 (times 3 2) (times 3 1) (times 3 2) (times 6 1) (times 3 2)))";
-    tapes(&format!("(board 2 2)\n(propose 1 7)\n(propose 2 3)\n{turns}\n(steps 1 2)"), &[
-        "(2 wrote)", "(2 read 0)", "(2 went 0 3 1)", "(1 wrote)", "(1 read 1)", "(1 went 0 7 2)",
-        "(2 wrote)", "(2 read 0)", "(2 marked 2 3 1)", "(1 wrote)", "(1 read 1)", "(1 marked 1 7 2)",
-        "(1 wrote)", "(1 read 1)", "(1 adopted 1 7 1)", "(2 wrote)", "(2 read 1)", "(2 adopted 1 3 2)",
-        "(2 wrote)", "(2 read 1)", "(2 went 1 3 2)", "(1 wrote)", "(1 read 1)", "(1 went 1 7 2)",
-        "(2 wrote)", "(2 read 0)", "(2 marked 2 3 1)", "(1 wrote)", "(1 read 1)", "(1 marked 1 7 2)",
-        "(1 wrote)", "(1 read 1)", "(1 spent 1 7 1)", "(2 wrote)", "(2 read 1)", "(2 spent 1 3 2)",
+    tapes(&format!("{CIRCLING}(steps 1 2 3)"), &[
+        "(2 wrote)", "(2 read 0)", "(2 read 1)", "(2 went 0 3 1)", "(1 wrote)", "(1 read 1)", "(1 read 1)", "(1 went 0 7 2)",
+        "(2 wrote)", "(2 read 0)", "(2 read 1)", "(2 marked 2 3 1)", "(1 wrote)", "(1 read 1)", "(1 read 1)", "(1 marked 1 7 2)",
+        "(1 wrote)", "(1 read 1)", "(1 read 0)", "(1 adopted 1 7 1)", "(2 wrote)", "(2 read 1)", "(2 read 1)", "(2 adopted 1 3 2)",
+        "(2 wrote)", "(2 read 1)", "(2 read 1)", "(2 went 1 3 2)", "(1 wrote)", "(1 read 1)", "(1 read 1)", "(1 went 1 7 2)",
+        "(2 wrote)", "(2 read 0)", "(2 read 1)", "(2 marked 2 3 1)", "(1 wrote)", "(1 read 1)", "(1 read 1)", "(1 marked 1 7 2)",
+        "(1 wrote)", "(1 read 1)", "(1 read 0)", "(1 spent 1 7 1)", "(2 wrote)", "(2 read 1)", "(2 read 1)", "(2 spent 1 3 2)",
     ]);
 }
 
 /// A second board begins no new tape, and a laying that is refused leaves the board that there is.
 #[test]
 fn several_boards_go_on_in_one_tape() {
-    let other = "(board 2 2)\n(propose 2 5)\n(board 17 2)\n(board 2 1)\n(steps 2 2 2)";
-    let others = "(2 wrote)\n(2 read 0)\n(2 went 0 5 1)\n";
+    let other = "(board 3 2)\n(propose 2 5)\n(board 17 2)\n(board 3 1)\n(board 2 2)\n(steps 2 2 2 2)";
+    let others = "(2 wrote)\n(2 read 0)\n(2 read 1)\n(2 went 0 5 1)\n";
     assert_eq!(lines_of(&format!("{ALONE}{other}")), format!("{ALONE_TAPE}{others}"));
     assert_eq!(lines_of(&format!("{other}\n{ALONE}")), format!("{others}{ALONE_TAPE}"));
     assert_eq!(lines_of(&format!("{ALONE}{ALONE}")), format!("{ALONE_TAPE}{ALONE_TAPE}"));
@@ -78,19 +79,19 @@ fn refused_lines_add_nothing() {
     assert_eq!(long.len(), 257);
     for line in [
         "", " ", "(steps 1", "(steps 1) ", "(steps 01)", "(steps 100)", "(steps (times 0 1))", "(steps (1))",
-        "(Steps 1)", &long, "(steps (((((((((", "(board 2 65)", "(board 0 2)", "(propose 1 5)", "(propose 0 1)",
+        "(Steps 1)", &long, "(steps (((((((((", "(board 3 65)", "(board 0 2)", "(board 2 2)", "(propose 1 5)", "(propose 0 1)",
         "(propose (2 5) (2 5))", "(propose (2 5) (1 5))", "(steps (times 65537 1))", "(steps 1 (times 65536 2))",
-        "(rounds 0 (1))", "(rounds 1 (3))", "(rounds 2 () (2 1))", "(wrote)", "(1 wrote)", "(show)",
+        "(rounds 0 (1))", "(rounds 1 (4))", "(rounds 2 () (2 1))", "(wrote)", "(1 wrote)", "(show)",
     ] {
-        let sheet = format!("(board 2 2)\n(propose 1 7)\n{line}\n(steps 1)\n");
+        let sheet = format!("(board 3 2)\n(propose 1 7)\n{line}\n(steps 1)\n");
         assert_eq!(lines_of(&sheet), "(1 wrote)\n", "{line}");
-        let before = format!("{line}\n(board 2 2)\n(propose 1 7)\n(steps 1)");
+        let before = format!("{line}\n(board 3 2)\n(propose 1 7)\n(steps 1)");
         assert_eq!(lines_of(&before), "(1 wrote)\n", "{line}");
     }
     // Amid a collect no round is played, not even one that suspends whoever reads.
-    assert_eq!(lines_of("(board 2 2)\n(propose 1 7)\n(steps 1)\n(rounds 1 (1))\n(steps 1)"), "(1 wrote)\n(1 read 1)\n");
+    assert_eq!(lines_of("(board 3 2)\n(propose 1 7)\n(steps 1)\n(rounds 1 (1))\n(steps 1)"), "(1 wrote)\n(1 read 1)\n");
     // Of pairs that are refused none is put in.
-    assert_eq!(lines_of("(board 2 2)\n(propose (1 5) (3 5))\n(steps 1 2)\n(propose (2 4))\n(steps 1 2)"), "(2 wrote)\n");
+    assert_eq!(lines_of("(board 3 2)\n(propose (1 5) (4 5))\n(steps 1 2)\n(propose (2 4))\n(steps 1 2)"), "(2 wrote)\n");
 }
 
 /// "refused steps leave no line": of stations that are not there, idle, decided or spent.
@@ -113,12 +114,12 @@ fn as_many_steps_as_a_line_may_ask_for() {
 #[test]
 #[rustfmt::skip]
 fn rounds_add_their_single_steps() {
-    let head = "(board 2 2)\n(propose (2 3) (1 7))\n";
+    let head = "(board 3 2)\n(propose (2 3) (1 7))\n";
     tapes(&format!("{head}(rounds 1 (1) ())"), &[
-        "(2 wrote)", "(2 read 0)", "(2 went 0 3 1)", "(1 wrote)", "(1 read 1)", "(1 went 0 7 2)",
-        "(2 wrote)", "(2 read 0)", "(2 marked 2 3 1)",
+        "(2 wrote)", "(2 read 0)", "(2 read 1)", "(2 went 0 3 1)", "(1 wrote)", "(1 read 1)", "(1 read 1)", "(1 went 0 7 2)",
+        "(2 wrote)", "(2 read 0)", "(2 read 1)", "(2 marked 2 3 1)",
     ]);
-    let singles = "(steps (times 3 2) (times 3 1) (times 3 2) (times 3 1) (times 3 2) (times 3 1) (times 3 2))";
+    let singles = "(steps (times 4 2) (times 4 1) (times 4 2) (times 4 1) (times 4 2) (times 4 1) (times 4 2))";
     let rounds = "(rounds 1 (1) () () () (1))";
     assert_eq!(lines_of(&format!("{head}{rounds}")), lines_of(&format!("{head}{singles}")));
     assert_eq!(lines_of(&format!("{head}(rounds 2 (1 2))\n(rounds 0)")), "");

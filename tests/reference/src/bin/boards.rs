@@ -1,6 +1,7 @@
 //! boards COUNT SEED: every call of the linked engine beside the reference, on made boards, and every byte that it was
-//! lent. A count of 0 goes on for ever, with a line per thousand batches. Where 256 batches or more are asked for, every
-//! refusal must have been met, and a station that is left alone and spent where no island is left.
+//! lent; first every run of two stations from a few starts. A count of 0 goes on for ever, with a line per thousand batches.
+//! Where 256 batches or more are asked for, every refusal must have been met, and a station that is left alone and spent where
+//! no island is left.
 
 use reference::compare::Compare;
 use reference::left_running::Ends;
@@ -14,7 +15,9 @@ fn print(compare: &Compare) {
         c.single_steps, c.run_steps, c.rounds, c.pairs, c.totals
     );
     print_ends(&c.ends);
-    let by: Vec<String> = (7..c.refusals.len()).map(|r| format!("{r}: {}", c.refusals[r])).collect();
+    println!("runs and boards of two stations: {} with a decision, {} without", c.two_decided, c.two_undecided);
+    let by: Vec<String> =
+        (7..c.refusals.len()).filter(|r| *r != 21).map(|r| format!("{r}: {}", c.refusals[r])).collect();
     println!("accepted {}; refused 6: {}, {}", c.refusals[0], c.refusals[6], by.join(", "));
 }
 
@@ -28,6 +31,19 @@ fn print_ends(ends: &Ends) {
     println!("the most steps alone with an island left, by stations: {}", longest.join(", "));
 }
 
+/// Every board of one or two stations, and every run of two from a start.
+fn small_boards(compare: &mut Compare) {
+    let ends = [i32::MAX, i32::MIN];
+    for (k, figures) in [(2, &[3][..]), (2, &[3, 7]), (2, &ends), (2, &[5, 5]), (2, &[5, -5]), (3, &[3, 7])] {
+        compare.reached(k, figures);
+    }
+    println!("every board of one or two stations: {} passed, {} failed", compare.passed, compare.failed);
+    for (k, figures) in [(2, [7, 3]), (2, [3, 7]), (2, ends), (2, [5, 5]), (2, [-5, 5]), (3, [7, 3]), (8, [3, 7])] {
+        compare.every_run_of_two(k, figures);
+    }
+    println!("every run of two stations from a start: {} passed, {} failed", compare.passed, compare.failed);
+}
+
 fn main() {
     let arguments: Vec<String> = std::env::args().collect();
     let [_, count, seed] = arguments.as_slice() else {
@@ -37,11 +53,7 @@ fn main() {
     let (count, first): (u64, u64) = (count.parse().expect("a number"), seed.parse().expect("a number"));
     println!("seeds from {first}");
     let mut compare = Compare::new(&Linked);
-    let ends = [i32::MAX, i32::MIN];
-    for (k, figures) in [(2, &[3][..]), (2, &[3, 7]), (2, &ends), (2, &[5, 5]), (2, &[5, -5]), (3, &[3, 7])] {
-        compare.reached(k, figures);
-    }
-    println!("every board of one or two stations: {} passed, {} failed", compare.passed, compare.failed);
+    small_boards(&mut compare);
     let mut told = 0;
     for at in 0.. {
         if count != 0 && at == count {

@@ -1,5 +1,6 @@
 //! lists PROGRAM COUNT SEED: demand 3 on made lists, by the calls of this package and by what the program prints; and that
-//! each answer of those calls tells the filled registers that were met.
+//! each answer of those calls tells the filled registers that were met. Lists of two stations are played from a start that
+//! holds their figures, which no sheet lays: those the program is not asked.
 //! With `-` for the program only the calls of this package are asked. A count of 0 goes on for ever. A fourth argument
 //! `three` adds every board that three stations can come to, some 1.5 million and half a minute.
 
@@ -7,7 +8,7 @@ use reference::engine::Reference;
 use reference::halts::Halts;
 use reference::lists::{judge, order_for, play, sequential, Call, Deeds, List, Played};
 use reference::made_lists::make;
-use reference::model::Standing;
+use reference::model::{Standing, TOO_FEW};
 use reference::pairs;
 use reference::program;
 use reference::random::Random;
@@ -97,6 +98,8 @@ fn deeds_of(list: &List, lines: &[(String, Option<Call>)], printed: &[&str]) -> 
     for ((_, call), answer) in lines.iter().zip(printed) {
         match call {
             None if answer.starts_with("(stations ") => shown = standings(answer)?,
+            // Only layings that are refused stand in a list.
+            Some(Call::Lay(..)) if !answer.starts_with("(refused ") => return None,
             Some(Call::Propose(i, v)) if answer.starts_with("(proposed ") => {
                 deeds.get_mut(*i as usize - 1)?.proposed = Some(*v)
             }
@@ -218,6 +221,38 @@ fn all_lists(tally: &mut Tally, k: u8, figures: &[i32]) {
     }
 }
 
+/// The tallies together, with their counts in the last line.
+fn told(tallies: [&Tally; 4]) -> ! {
+    let passed: u64 = tallies.iter().map(|tally| tally.passed).sum();
+    let failed: u64 = tallies.iter().map(|tally| tally.failed).sum();
+    println!("{passed} passed, {failed} failed");
+    std::process::exit((failed > 0) as i32);
+}
+
+/// Lists that the program plays as one sheet, as many as fit.
+struct Waiting<'a> {
+    program: &'a str,
+    lists: Vec<(u64, List)>,
+    size: usize,
+}
+
+impl Waiting<'_> {
+    fn push(&mut self, sheets: &mut Tally, seed: u64, list: List) {
+        let bytes: usize = lines(&list).iter().map(|(text, _)| text.len() + 1).sum();
+        if self.size + bytes > reference::sheet::LONGEST_SHEET {
+            self.play(sheets);
+        }
+        self.size += bytes;
+        self.lists.push((seed, list));
+    }
+
+    fn play(&mut self, sheets: &mut Tally) {
+        by_program(sheets, self.program, &self.lists);
+        self.lists.clear();
+        self.size = 0;
+    }
+}
+
 fn main() {
     let arguments: Vec<String> = std::env::args().collect();
     let [_, program, count, seed, more @ ..] = arguments.as_slice() else {
@@ -234,8 +269,7 @@ fn main() {
     if more == ["three"] {
         all_lists(&mut reached, 2, &[7, 3, 5]);
     }
-    let mut waiting: Vec<(u64, List)> = Vec::new();
-    let mut size = 0;
+    let mut waiting = Waiting { program, lists: Vec::new(), size: 0 };
     for at in 0.. {
         if count != 0 && at == count {
             break;
@@ -244,29 +278,19 @@ fn main() {
         let list = make(seed);
         by_calls(&mut calls, seed, &list);
         any_order(&mut orders, seed);
-        if program != "-" {
-            let bytes: usize = lines(&list).iter().map(|(text, _)| text.len() + 1).sum();
-            if size + bytes > reference::sheet::LONGEST_SHEET {
-                by_program(&mut sheets, program, &waiting);
-                waiting.clear();
-                size = 0;
-            }
-            size += bytes;
-            waiting.push((seed, list));
+        if program != "-" && list.n != TOO_FEW {
+            waiting.push(&mut sheets, seed, list);
         }
         if (at + 1) % 1000 == 0 && count == 0 {
             println!("to seed {seed}: {} failed", calls.failed + sheets.failed + orders.failed);
         }
     }
     if program != "-" {
-        by_program(&mut sheets, program, &waiting);
+        waiting.play(&mut sheets);
         sheets.print("the program's sheets");
     }
     calls.print("single calls");
     orders.print("sequential runs");
     reached.print("all boards reached");
-    let passed = calls.passed + sheets.passed + orders.passed + reached.passed;
-    let failed = calls.failed + sheets.failed + orders.failed + reached.failed;
-    println!("{passed} passed, {failed} failed");
-    std::process::exit((failed > 0) as i32);
+    told([&calls, &sheets, &orders, &reached])
 }

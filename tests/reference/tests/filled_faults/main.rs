@@ -61,7 +61,7 @@ impl OnValues for Faulty {
 
     fn proposed(&self, apart: &mut Apart, station: u8, figure: i32) -> Result<(), Refusal> {
         let who = apart.world.place(station)?;
-        apart.world.propose(who, figure)?;
+        apart.world.propose(station, figure)?;
         apart.aside[who] += (self.0 == Fault::ProposalCounts) as u16;
         Ok(())
     }

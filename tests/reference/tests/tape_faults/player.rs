@@ -1,7 +1,7 @@
 //! A sheet played by whoever gets its own tape wrong, as `own` lists it.
 
 use crate::own::OwnFault::{self, *};
-use reference::calls::{counts, MOST_STEPS};
+use reference::calls::{laid_counts, MOST_STEPS};
 use reference::halts::Halts;
 use reference::model::{Standing, World};
 use reference::refusal::Refusal;
@@ -71,9 +71,7 @@ impl Player {
             Form::ProposeAll(pairs) => {
                 let world = self.board.as_mut().expect("it is laid");
                 if self.fault == PairsBeforeAFault && world.tried(&pairs).is_err() {
-                    return pairs
-                        .iter()
-                        .try_for_each(|(station, figure)| world.propose(world.place(*station)?, *figure));
+                    return pairs.iter().try_for_each(|(station, figure)| world.propose(*station, *figure));
                 }
                 if self.fault == PairsNotPutIn {
                     Ok(())
@@ -88,7 +86,7 @@ impl Player {
     }
 
     fn laid(&mut self, n: u8, k: u8) -> Result<(), Refusal> {
-        if let Err(refusal) = counts(n, k) {
+        if let Err(refusal) = laid_counts(n, k) {
             self.board = self.board.take().filter(|_| self.fault != RefusedLayingForgets);
             return Err(refusal);
         }
@@ -109,7 +107,7 @@ impl Player {
         if self.fault == RefusedProposalReplaces {
             world.stations[who] = fresh.stations[0].clone();
         }
-        world.propose(who, figure)
+        world.propose(station, figure)
     }
 
     fn ran(&mut self, items: &[Item]) -> Result<(), Refusal> {
