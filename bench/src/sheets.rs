@@ -1,7 +1,7 @@
 //! Run sheets that ask for the most: as many lines as 32,768 bytes hold.
 
 use crate::work::MOST_ROUNDS;
-use reference::habits::rising_lines;
+use reference::habits::{self, rising_lines};
 use reference::sheet::LONGEST_SHEET;
 
 /// A line may count 65,536 steps, and only steps that are refused can be had so often. 24 bytes a line: 89 million steps.
@@ -13,16 +13,21 @@ const NESTED: &str = "(steps (times 65536 (times 1 (times 1 (times 1 (times 1 (t
 /// The shortest line that looks at a whole board.
 const SHOW: &str = "(show)";
 
-/// Both stations end spent, for which a step's refusal is the last that is tested.
-const SPENT: &str = "(board 2 2)\n(propose 1 7)\n(propose 2 3)\n\
-    (steps (times 2 (times 3 2) (times 3 1) (times 3 2) (times 6 1) (times 3 2)))\n";
+/// Three stations with rising figures, which the rounds of `habits::contended` keep from deciding.
+fn three(k: u8) -> String {
+    format!("(board 3 {k})\n(propose (1 1) (2 2) (3 3))\n")
+}
 
-/// A board again and again, on which two stations come to no decision on any island; beside each step that is taken, as
-/// many that are refused as a line of 255 bytes holds.
+/// All stations end spent, for which a step's refusal is the last that is tested.
+fn spent() -> String {
+    format!("{}{}\n", three(2), habits::contended(3, 2).to_line())
+}
+
+/// A board again and again, on which three stations take every step that they can on all islands; beside each of them, as
+/// many that are refused as a line of 255 bytes holds. The steps are those of the same rounds.
 fn contended() -> String {
-    let turn = |count: u8, station: u8| format!(" (times {count} {station}{})", " 0".repeat(17));
-    let island: String = [(3, 2), (3, 1), (3, 2), (6, 1), (3, 2)].map(|(count, station)| turn(count, station)).concat();
-    format!("(board 2 64)\n(propose 1 7)\n(propose 2 3)\n(steps (times 64{island}))")
+    let turns = |stations: [u8; 3]| stations.map(|station| format!(" (times 4 {station}{})", " 0".repeat(12))).concat();
+    format!("{}(steps (times 64 (times 2{}){}))", three(64), turns([1, 2, 3]), turns([2, 3, 1]))
 }
 
 /// The largest board, on which all have decided.
@@ -34,8 +39,8 @@ fn largest_done() -> String {
 fn kinds() -> [(&'static str, String, String); 5] {
     let largest = format!("(board 16 64)\n{}(steps 1 2 3 4 5 6 7 8 9 10 11 12 13 14 15 16)\n", rising_lines());
     [
-        ("flat", SPENT.to_string(), FLAT.to_string()),
-        ("nested", SPENT.to_string(), NESTED.to_string()),
+        ("flat", spent(), FLAT.to_string()),
+        ("nested", spent(), NESTED.to_string()),
         ("contended", String::new(), contended()),
         ("rounds", largest_done(), format!("(rounds 0{})", " ()".repeat(MOST_ROUNDS))),
         ("show", largest, SHOW.to_string()),

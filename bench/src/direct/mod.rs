@@ -24,7 +24,7 @@ fn records_at(n: usize, k: usize) -> usize {
     8 + 8 * n * (1 + 2 * k)
 }
 
-/// Refusals 8 to 10.
+/// Refusals 8 to 10; laying has one n fewer.
 fn fits(length: usize, n: usize, k: usize) -> Result<(), u8> {
     if !(1..=16).contains(&n) {
         return Err(8);
@@ -109,6 +109,9 @@ impl Engine for Direct {
         if board.len() < 8 {
             return 7;
         }
+        if n == 2 {
+            return 8;
+        }
         if let Err(refusal) = fits(board.len(), n as usize, k as usize) {
             return refusal;
         }
@@ -125,6 +128,9 @@ impl Engine for Direct {
         let who = (station as usize).wrapping_sub(1);
         if who >= n {
             return 12;
+        }
+        if n == 2 {
+            return 22;
         }
         let r = &mut board[records_at(n, k)..][RECORD * who..][..RECORD];
         if r[0] != 0 {

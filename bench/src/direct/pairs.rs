@@ -30,6 +30,9 @@ pub fn propose_all(board: &mut [u8], pairs: &[u64]) -> Result<(), u8> {
         if who >= n {
             return Err(12);
         }
+        if n == 2 {
+            return Err(22);
+        }
         if records[RECORD * who] != 0 {
             return Err(13);
         }
