@@ -1,24 +1,14 @@
 -- Laying: the answer and bytes at each return.
 -- Relies on the model's refusals and on what the shape's function promises; the proof of `lay` relies on it.
-use Rattle.model.proofs.Kit.{_≡_, refl, sym, ap, _∙_, Bool, false, List, _∷_, none, some, ℕ, suc, _-_, _<_}
+use Rattle.model.proofs.Kit.{_≡_, refl, sym, ap, _∙_, Bool, List, _∷_, none, some, ℕ, suc, _-_, _<_}
 use Rattle.model.proofs.Kit.{length, replicate, set, length-replicate, length-set, arith}
 use Rattle.model.specs.declared.Verdict.the-variants.{Accepted, Refused}
 use Rattle.model.specs.Layout.{boardLength, freshBoard}
 use Rattle.model.specs.Calls.{Refusal, ranges, laidRanges, shapeRefusal, unlessRefused, lay}
 use Rattle.model.specs.Told.{verdict}
-use Rattle.model.proofs.Calls.Refusals.{Shape, inside-laid, shape-of, two-not-laid, others-laid}
+use Rattle.model.proofs.Calls.Refusals.{Shape, inside-laid, shape-of}
 use Rattle.soundness.specs.Shaped.{numbered, Shaped}
 use Rattle.soundness.proofs.Laws.Verdicts.{refused-by, passed-by}
-
--- ---- n that can be laid
-
-pub two-stations : (n : ℕ) → n ≡ 2 → false ≡ laidRanges .stationsIn n
-two-stations n e = sym (two-not-laid n e)
-
-pub other-number : (n : ℕ) → (n ≡ 2 → ⊥) → (r : Bool) → r ≡ ranges .stationsIn n → r ≡ laidRanges .stationsIn n
-other-number n f r e = e ∙ sym (others-laid n f)
-
--- ---- the bytes
 
 -- a cleared board with n and K in front
 two-set : (n K m : ℕ) → set (set (replicate (suc (suc m)) 0) 0 n) 1 K ≡ n ∷ K ∷ replicate m 0

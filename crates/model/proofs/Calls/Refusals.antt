@@ -111,16 +111,17 @@ inside-laid = record {
   islands = λ K t. t;
 }
 
--- the same by the head's range: all of it but 2
-pub two-not-laid : (n : ℕ) → n ≡ 2 → laidRanges .stationsIn n ≡ false
-two-not-laid n e = no-T _ (λ t. laid-in n t .2 e)
+-- the same by the head's range, as the code has it: all of it but 2
+pub two-not-laid : (n : ℕ) → n ≡ 2 → false ≡ laidRanges .stationsIn n
+two-not-laid n e = sym (no-T _ (λ t. laid-in n t .2 e))
 
-pub others-laid : (n : ℕ) → (n ≡ 2 → ⊥) → laidRanges .stationsIn n ≡ ranges .stationsIn n
+pub others-laid : (n : ℕ) → (n ≡ 2 → ⊥) → (r : Bool) → r ≡ ranges .stationsIn n → r ≡ laidRanges .stationsIn n
 unfolding ranges laidRanges
-others-laid n f = both _ _ (inside-laid .stations n) (λ t. let w = within 1 16 n t in elim (ℕ-discrete n 1) [
-  | yes e ↦ or-l (eqb n 1) _ (rw e tt)
-  | no g ↦ or-r (eqb n 1) _ (within-T 3 16 n (omega (arith, w .0)) (w .1))
-])
+others-laid n f r e =
+    e ∙ both _ _ (λ t. let w = within 1 16 n t in elim (ℕ-discrete n 1) [
+      | yes e ↦ or-l (eqb n 1) _ (rw e tt)
+      | no g ↦ or-r (eqb n 1) _ (within-T 3 16 n (omega (arith, w .0)) (w .1))
+    ]) (inside-laid .stations n)
 
 module _ (n K : ℕ) (b : List ℕ) where
   pub shape-of : (asked : Ranges) → Inside asked → (later : Refusal) → shapeRefusal asked n K b later ≡ none
