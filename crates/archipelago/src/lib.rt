@@ -1,5 +1,7 @@
 // The listing's one move on a station's fields: one access to one register. It sees no byte and no board.
 // Relies on the model's declared types and on what a collect keeps; the stepper of a lent record relies on it.
+#![tactic(auto)]
+
 mod finish;
 mod read;
 
@@ -12,7 +14,7 @@ use model::{Record, Register, StepAnswer};
 use read::{read_a, read_b, read_m};
 
 // The station after the move, the register that the move wrote if it writes, and the answer.
-#[derive(Drop)]
+#[derive(Clone, Copy)]
 pub struct Moved {
     pub station: Record,
     pub register: Register,

@@ -1,5 +1,7 @@
 // One register added to what a collect has seen, for each of the three arrays. An empty register adds nothing.
 // Relies on the model's declared types and on the order of figures; the listing's reads rely on it.
+#![tactic(auto)]
+
 ghost use Rattle.std.specs.Prelude.{◌≡◌};
 ghost use Rattle.model.specs.Listing.{Flag, turn_m, turn_a, turn_b, adopt, commit};
 ghost use Rattle.collect.specs.Collected.{noting, Kept, seeing, Adds};

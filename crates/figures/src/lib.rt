@@ -1,6 +1,8 @@
 // Figures as bytes: four bytes, least significant first, in two's complement. And their order, and numbers of two bytes.
 // Relies on the crate model; the codec of registers and records, the collects, the test of a board and the packing of
 // answers rely on it.
+#![tactic(auto)]
+
 pub mod order; // the order of figures and of pairs
 pub mod pairs; // numbers of two bytes
 pub mod zeros; // two and four bytes that are zero

@@ -1,6 +1,8 @@
 // What rounds ask of a board, as one number: the stations it must have, or 255, which no board has, for rounds that no
 // board takes. It knows no board and no line.
 // Relies on nothing of a board; the reader of a line's rounds and the lent rounds rely on it.
+#![tactic(auto)]
+
 ghost use Rattle.std.specs.Prelude.{◌≡◌, max};
 ghost use Rattle.halts.specs.Needs.{climb, closed};
 

@@ -18,6 +18,7 @@ use Rattle.model.proofs.Calls.Refusals.{Shape, laid_fresh, laid_not_two}
 use Rattle.model.proofs.Agreement.Cells.{cells}
 use Rattle.model.proofs.Agreement.StateCalls.{inv_initial}
 use Rattle.model.proofs.Termination.Climbs.{Safe, climbs_inductive, climbs_initial}
+use Rattle.model.proofs.Termination.Rest.{alone_steps}
 use Rattle.model.proofs.Agreement.State.{initial, proposing}
 use Rattle.model.proofs.Bridge.View.{view, view_register}
 use Rattle.model.proofs.Bridge.Single.{Ready, propose_ready, propose_sim}
@@ -43,7 +44,7 @@ module _ (n K : ℕ) (lent : List ℕ) (shape : Shape n K lent) (cs : List Call)
       along_list n K (climbs_inductive figures same_law n K) cs (fresh_board n K) (ready n K _ start) a (λ i v p. tt)
       (rw (fresh_view n K) ((inv_initial n).clauses, climbs_initial))
 
-  decides_within : RoomAbove end → (i : ℕ) → GoingOn i end → (steps : ℕ) → 9 * (n + 1) ≤ steps
+  decides_within : RoomAbove end → (i : ℕ) → GoingOn i end → (steps : ℕ) → alone_steps n ≤ steps
       → DecidesWithin steps i end
   decides_within = decides_alone n K end (ready n K end end_held) shape.islands_low end_safe
 

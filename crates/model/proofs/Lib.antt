@@ -9,6 +9,7 @@ pub mod Sequential
 pub mod Termination
 pub mod Bridge
 pub mod Demand3
+pub mod TwoStart
 pub mod TwoStations
 pub mod LeftRunning
 pub mod Sheet

@@ -1,171 +1,42 @@
 -- Saved boards of two stations, fresh but for the two proposals: all decisions of every list from them are one figure,
 -- and a station left running decides.
--- Relies on the fresh board, decisions in a list and stations left alone. The statement is specs/TwoStations.antt.
-use Rattle.model.proofs.Kit.{◌≡◌, ap, ◌∙◌, List, ℕ, zero, suc, ◌-◌, ◌≤◌, ◌<◌, lit<, arith}
+-- Relies on their start, decisions in a list and stations left alone. The statement is specs/TwoStations.antt.
+use Rattle.model.proofs.Kit.{List, ℕ, ◌≤◌, lit<}
 use Rattle.model.specs.Figure.{Figure, figures}
-use Rattle.model.specs.Listing.{idle, proposed}
-use Rattle.model.specs.Layout.{board_length, fresh_board, station_of}
-use Rattle.model.specs.Calls.{stations, islands, station_at, put_proposal}
 use Rattle.model.specs.Claims.{Passes}
-use Rattle.model.specs.AnyList.{Call, after, AllAllowed, Some, Steps, Decides}
-use Rattle.model.specs.TwoStations.{start, Holds, Settles, SavedBoard, SavedBoards}
+use Rattle.model.specs.AnyList.{Call, after, AllAllowed}
+use Rattle.model.specs.TwoStations.{start, Settles, SavedBoard, SavedBoards}
 use Rattle.model.proofs.Basics.Numbers.{same_law}
 use Rattle.model.proofs.Board.Codec.{Fits}
-use Rattle.model.proofs.Board.Fresh.{length_fresh}
-use Rattle.model.proofs.Calls.Refusals.{Shape, board_passes}
-use Rattle.model.proofs.Calls.CallsKeep.{proposed_fits, put_head, put_keeps}
-use Rattle.model.proofs.Agreement.State.{proposing}
-use Rattle.model.proofs.Agreement.Cells.{Cell, cells}
-use Rattle.model.proofs.Agreement.Inductive.{Inductive, propose_keeps}
-use Rattle.model.proofs.Agreement.StateCalls.{Any, inductive, inv_initial}
-use Rattle.model.proofs.Termination.Climbs.{Safe, climbs_inductive, climbs_initial}
-use Rattle.model.proofs.Bridge.View.{view, view_station, view_put_station}
+use Rattle.model.proofs.Calls.Refusals.{board_passes}
+use Rattle.model.proofs.Termination.Climbs.{climbs_inductive}
 use Rattle.model.proofs.Bridge.Lists.{Held, ready, held_after, along_list}
-use Rattle.model.proofs.Bridge.Along.{m_of, m_of_lem, own_put, other_put}
-use Rattle.model.proofs.Bridge.History.{same_proposal, active_after}
-use Rattle.model.proofs.Bridge.Decided.{Unstepped, agreement, witness, stepped_in_list}
+use Rattle.model.proofs.Bridge.Decided.{agreement}
 use Rattle.model.proofs.Bridge.LeftAlone.{decides_alone}
-use Rattle.model.proofs.Demand3.{fresh_station, fresh_view, fresh_held, fresh_m}
-
--- ---- a proposal that is put in for an idle station, though no call would take it
-
--- what lists carry along from a board on which nobody has taken a step
-record Begun (n K : ℕ) (b : List ℕ) : Type 0 where
-  held : Held n K b
-  safe : Safe n (cells (view n K b))
-  unstepped : Unstepped n K b
-
--- the board b with the proposal v of station index j
-record Put (n K : ℕ) (b : List ℕ) (j : ℕ) (v : Figure) : Type 0 where
-  begun : Begun n K (put_proposal n K j v b)
-  stands : station_of n K j (put_proposal n K j v b) ≡ proposed v
-  others : (i : ℕ) → i < n → (j ≡ i → ⊥) → station_of n K i (put_proposal n K j v b) ≡ station_of n K i b
-
-module _ (n K : ℕ) (b : List ℕ) (s : Begun n K b) (j : ℕ) (own : j < n) (v : Figure) (fits : Fits v)
-    (rests : station_of n K j b ≡ idle) where
-  abbrev h : Held n K b
-  h = s.held
-
-  put_view : view n K (put_proposal n K j v b) ≡ proposing j v (view n K b)
-  unfolding proposing
-  put_view =
-      view_put_station n K b (rw (h.is_n, h.is_k) at h.board.sound_board.len) j own (proposed v) _
-      (proposed_fits v fits)
-
-  -- what proposals keep is kept
-  put_state : {P : (ℕ → Cell Figure) → Type 0} → Inductive figures n K Any P → P (cells (view n K b))
-      → P (cells (view n K (put_proposal n K j v b)))
-  put_state k p = rw put_view (propose_keeps k (view n K b) j v own (view_station n K b j own ∙ rests) tt p)
-
-  put_held : Held n K (put_proposal n K j v b)
-  unfolding stations islands
-  put_held = record {
-    board = rw (h.is_n, h.is_k) at (put_keeps b h.board j (rw h.is_n own) v fits);
-    is_n = rw (h.is_n, h.is_k) at (put_head b h.board j (rw h.is_n own) v 0 (lit< tt));
-    is_k = rw (h.is_n, h.is_k) at (put_head b h.board j (rw h.is_n own) v 1 (lit< tt));
-    inv = record { clauses = put_state (inductive figures same_law n K) h.inv.clauses };
-  }
-
-  put : Put n K b j v
-  unfolding proposing m_of
-  put = record {
-    begun = record {
-      held = put_held;
-      safe = put_state (climbs_inductive figures same_law n K) s.safe;
-      unstepped = λ i f. s.unstepped i (rw (m_of_lem n K i _ put_view) at f);
-    };
-    stands = own_put n K b _ j _ _ put_view own;
-    others = other_put n K b _ j _ _ put_view;
-  }
-
--- ---- the start
+use Rattle.model.proofs.TwoStart.{Begun, begun, holds, first_stands, second_stands, validity}
 
 module _ (K : ℕ) (low : 2 ≤ K) (high : K ≤ 64) (v w : Figure) (fits-v : Fits v) (fits-w : Fits w) where
-  shape : Shape 2 K (fresh_board 2 K)
-  unfolding board_length
-  shape = record {
-    long = omega (arith, length_fresh 2 K);
-    stations_low = omega arith;
-    stations_high = omega arith;
-    islands_low = low;
-    islands_high = high;
-    len = length_fresh 2 K;
-  }
-
-  fresh : Begun 2 K (fresh_board 2 K)
-  fresh = record {
-    held = fresh_held 2 K (fresh_board 2 K) shape;
-    safe = rw (fresh_view 2 K) ((inv_initial 2).clauses, climbs_initial);
-    unstepped = fresh_m 2 K;
-  }
-
-  one : Put 2 K (fresh_board 2 K) 0 v
-  one = put 2 K _ fresh 0 (lit< tt) v fits-v (fresh_station 2 K 0 (lit< tt))
-
-  two : Put 2 K (put_proposal 2 K 0 v (fresh_board 2 K)) 1 w
-  two =
-      put 2 K _ one.begun 1 (lit< tt) w fits-w
-      (one.others 1 (lit< tt) (λ e. omega arith) ∙ fresh_station 2 K 1 (lit< tt))
-
-  begun : Begun 2 K (start K v w)
-  unfolding start
-  begun = two.begun
+  abbrev at_start : Begun 2 K (start K v w)
+  at_start = begun K low high v w fits-v fits-w
 
   abbrev held : Held 2 K (start K v w)
-  held = begun.held
-
-  first_stands : station_of 2 K 0 (start K v w) ≡ proposed v
-  unfolding start
-  first_stands = two.others 0 (lit< tt) (λ e. omega arith) ∙ one.stands
-
-  second_stands : station_of 2 K 1 (start K v w) ≡ proposed w
-  unfolding start
-  second_stands = two.stands
-
-  holds : (j : ℕ) (x : Figure) → j < 2 → station_of 2 K j (start K v w) ≡ proposed x → Holds (suc j) x (start K v w)
-  unfolding station_at
-  holds j x own e = record {
-    low = omega arith;
-    high = omega (arith, held.is_n);
-    proposal = let index : suc j - 1 ≡ j = omega arith in rw (held.is_n, held.is_k, index) e;
-  }
-
-  -- each station stands with its figure
-  each_stands : (j : ℕ) → j < 2 → (x : Figure) × (station_of 2 K j (start K v w) ≡ proposed x)
-  each_stands zero h = (v, first_stands)
-  each_stands (suc zero) h = (w, second_stands)
-  each_stands (suc (suc j)) h = absurd (omega arith)
-
-  -- ---- every list
+  held = at_start.held
 
   module _ (cs : List Call) (a : AllAllowed cs (start K v w)) where
-    validity : (i : ℕ) (x : Figure) → Some (Decides i x) cs (start K v w)
-        → (j : ℕ) × Holds j x (start K v w) × Some (Steps j) cs (start K v w)
-    unfolding proposed
-    validity i x p =
-        let t = witness 2 K (start K v w) held cs a i x p in
-        let (y, e) = each_stands t.who t.own in
-        let stays = active_after 2 K t.who t.own y cs (start K v w) held a (_, e) in
-        let same : y ≡ x = same_proposal stays.1 t.proposal in (
-          suc t.who,
-          holds t.who x t.own (e ∙ ap proposed same),
-          stepped_in_list 2 K (start K v w) held cs a begun.unstepped t.who t.own t.steps,
-        )
-
     settles : Settles (start K v w) cs
     settles = record {
       agreement = agreement 2 K (start K v w) held cs a;
-      validity = validity;
+      validity = validity K low high v w fits-v fits-w cs a;
       alone = decides_alone 2 K (after cs (start K v w)) (ready 2 K _ (held_after 2 K cs _ held a)) low
-          (along_list 2 K (climbs_inductive figures same_law 2 K) cs _ (ready 2 K _ held) a (λ i v p. tt) begun.safe);
+          (along_list 2 K (climbs_inductive figures same_law 2 K) cs _ (ready 2 K _ held) a (λ i v p. tt) at_start.safe);
     }
 
   saved_board : SavedBoard v w (start K v w)
   unfolding Passes
   saved_board = record {
     sound = board_passes _ held.board _;
-    first = holds 0 v (lit< tt) first_stands;
-    second = holds 1 w (lit< tt) second_stands;
+    first = holds K low high v w fits-v fits-w 0 v (lit< tt) (first_stands K low high v w fits-v fits-w);
+    second = holds K low high v w fits-v fits-w 1 w (lit< tt) (second_stands K low high v w fits-v fits-w);
     settles = settles;
   }
 

@@ -1,12 +1,12 @@
 -- Demand 3 as 01 words it under "Any list of calls", about the calls on bytes.
 -- Relies on the calls alone; proofs/Demand3.antt proves `Demand3` for every list.
-use Rattle.model.specs.Kit.{Bool, true, false, List, [], ◌∷◌, none, some, ℕ, zero, suc, ◌+◌, ◌*◌, ◌≤◌}
-use Rattle.std.specs.Prelude.{◌⊎◌, ◌≡◌}
+use Rattle.std.specs.Prelude.{Bool, true, false, List, [], ◌∷◌, ℕ, zero, suc, ◌+◌, ◌*◌, ◌≤◌, ◌⊎◌, ◌≡◌}
+use Rattle.std.proofs.Math.Option.{none, some}
 use Rattle.std.specs.Int.{w32}
 use Rattle.std.proofs.Common.{SFits}
 use Rattle.model.specs.Figure.{Figure}
 use Rattle.model.specs.Layout.{fresh_board}
-use Rattle.model.specs.Listing.{Answer, decided, Outcome, goes_on, comes_to_end, is_refused, outcome}
+use Rattle.model.specs.Listing.{Answer, decided, goes_on, comes_to_end, is_refused, outcome}
 use Rattle.model.specs.Listing.{accepted}
 use Rattle.model.specs.Filled.{Report, refusal}
 use Rattle.model.specs.Calls.{After, lay, propose, step}

@@ -1,7 +1,7 @@
 -- 02, Four, of proposals put in together: "the board afterwards equals that of single proposals in any order".
 -- Relies on the proposals and on the kit's permutations of a list; proofs/Calls/AnyOrder.antt proves `AnyOrder`.
-use Rattle.model.specs.Kit.{List, [], ◌∷◌, none, ℕ}
-use Rattle.std.specs.Prelude.{◌≡◌}
+use Rattle.std.specs.Prelude.{List, [], ◌∷◌, ℕ, ◌≡◌}
+use Rattle.std.proofs.Math.Option.{none}
 use mathlib.Core.List.{Permᴰ}
 use Rattle.model.specs.Calls.{propose}
 use Rattle.model.specs.Claims.{Passes}

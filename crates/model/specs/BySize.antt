@@ -1,7 +1,6 @@
 -- Three of 02: what holds of the order of figures.
 -- Relies on the order and on what the listing needs of one; proofs/Listing/Order.antt proves the one claim.
-use Rattle.model.specs.Kit.{true, ℕ, suc, ◌*◌, ltb, pos, negsuc}
-use Rattle.std.specs.Prelude.{◌⊎◌, ◌≡◌}
+use Rattle.std.specs.Prelude.{true, ℕ, suc, ◌*◌, ltb, pos, negsuc, ◌⊎◌, ◌≡◌}
 use Rattle.std.specs.Int.{w32}
 use Rattle.std.proofs.Common.{SFits}
 use Rattle.model.specs.Figure.{Figure, above, figures}

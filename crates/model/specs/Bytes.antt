@@ -1,7 +1,7 @@
 -- Lists of bytes: numbers of several bytes, tests that compute, and the one way in which bytes change.
--- Relies on Kit; every other definition relies on it.
-use Rattle.model.specs.Kit.{Bool, true, false, not, ◌&&◌, ◌||◌, cond, List, [], ◌∷◌, ◌++◌, ℕ, zero, suc, ◌+◌, ◌*◌}
-use Rattle.model.specs.Kit.{◌/◌, ◌%◌, eqb, length, get_or, take, drop}
+-- Relies on the library alone; every other definition relies on it.
+use Rattle.std.specs.Prelude.{Bool, true, false, not, ◌&&◌, ◌||◌, cond, List, [], ◌∷◌, ◌++◌, ℕ, zero, suc, ◌+◌, ◌*◌}
+use Rattle.std.specs.Prelude.{◌/◌, ◌%◌, eqb, length, get_or, take, drop}
 
 -- byte i of a list, and 0 past its end
 abbrev pub byte : List ℕ → ℕ → ℕ

@@ -1,8 +1,8 @@
 -- The calls: for each, the refusals in 01's order, then the answer and the bytes afterwards, from what is lent and
 -- given.
 -- Relies on all definitions but the shown line; every public contract is an equation with one of these.
-use Rattle.model.specs.Kit.{Bool, true, false, not, ◌&&◌, ◌||◌, cond, List, [], ◌∷◌, Option, none, some, ℕ, ◌+◌}
-use Rattle.model.specs.Kit.{◌-◌, eqb, leb, length}
+use Rattle.std.specs.Prelude.{Bool, true, false, not, ◌&&◌, ◌||◌, cond, List, [], ◌∷◌, ℕ, ◌+◌, ◌-◌, eqb, leb, length}
+use Rattle.std.proofs.Math.Option.{Option, none, some}
 use Rattle.model.specs.declared.Record.{Record}
 use Rattle.model.specs.Bytes.{byte, splice}
 use Rattle.model.specs.Figure.{Figure, figures}

@@ -1,8 +1,8 @@
 -- What 01 says of every call beside its equation: a refusal changes nothing, soundness is kept, a step is local and its
 -- answer tells where the station stands.
 -- Relies on the calls; proofs/Calls/Claims.antt proves each claim.
-use Rattle.model.specs.Kit.{false, List, [], ◌∷◌, none, some, ℕ, ◌-◌}
-use Rattle.std.specs.Prelude.{◌≡◌, ◌<◌}
+use Rattle.std.specs.Prelude.{false, List, [], ◌∷◌, ℕ, ◌-◌, ◌≡◌, ◌<◌}
+use Rattle.std.proofs.Math.Option.{none, some}
 use Rattle.std.specs.Int.{w32}
 use Rattle.std.proofs.Common.{SFits}
 use Rattle.model.specs.Bytes.{splice}

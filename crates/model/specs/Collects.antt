@@ -1,8 +1,8 @@
 -- Lines 6 to 14 and 26 to 30 as source 001 prints them, on the values that the n reads of a collect met, and the claim
 -- that n single reads end exactly as these lines say. A reader can hold this page beside the paper's.
 -- Relies on the listing; proofs/Listing/Page.antt proves `Collects` and `Leave` for every order of figures.
-use Rattle.model.specs.Kit.{Bool, true, false, List, [], ◌∷◌, ◌++◌, Option, none, some, ℕ, ◌+◌, length}
-use Rattle.std.specs.Prelude.{◌≡◌, ◌⊎◌, map}
+use Rattle.std.specs.Prelude.{Bool, true, false, List, [], ◌∷◌, ◌++◌, ℕ, ◌+◌, length, ◌≡◌, ◌⊎◌, map}
+use Rattle.std.proofs.Math.Option.{Option, none, some}
 use Rattle.model.specs.Listing.{Order, Flag, adopt, commit, flag_number, Register, empty, filled, Turn, turn_m}
 use Rattle.model.specs.Listing.{turn_a, turn_b, nothing}
 use Rattle.model.specs.Listing.{Stage, writing, reading, has_decided, Move, stay, onward, pair_above, move, read}

@@ -1,10 +1,10 @@
 -- The edges of the sheet's grammar as one table: a row is a line and what is read in it; and the limit of a line's
 -- steps. Relies on the forms and the sheet; proofs/Sheet/Limits.antt proves the statements `Edges` and `StepsLimit`.
-use Rattle.model.specs.Kit.{List, [], ◌∷◌, ◌++◌, none, ℕ, zero, suc, ◌+◌, take, replicate, pos, negsuc}
-use Rattle.std.specs.Prelude.{◌≡◌, map}
+use Rattle.std.specs.Prelude.{List, [], ◌∷◌, ◌++◌, ℕ, zero, suc, ◌+◌, take, replicate, pos, negsuc, ◌≡◌, map}
+use Rattle.std.proofs.Math.Option.{none}
 use Rattle.model.specs.Calls.{ran, board_refusal}
 use Rattle.model.specs.Show.{text}
-use Rattle.model.specs.Forms.{Form, station, times, Items, done, next, board, propose, steps, show, Reading}
+use Rattle.model.specs.Forms.{Form, station, times, Items, done, next, board, propose, steps, Reading}
 use Rattle.model.specs.Forms.{rounds, proposals, reads, unread, read_line}
 use Rattle.model.specs.Figure.{Figure}
 use Rattle.model.specs.Proposals.{Proposal}

@@ -1,7 +1,6 @@
 -- Figures: signed 32-bit whole numbers, as two's complement bytes, and their order.
 -- Relies on Bytes; the layout, soundness and the calls rely on it.
-use Rattle.model.specs.Kit.{Bool, false, ◌&&◌, ◌||◌, List, ℕ, eqb, ltb, ℤ, pos, negsuc}
-use Rattle.std.specs.Prelude.{nat_abs}
+use Rattle.std.specs.Prelude.{Bool, false, ◌&&◌, ◌||◌, List, ℕ, eqb, ltb, ℤ, pos, negsuc, nat_abs}
 use Rattle.std.specs.Int.Signed.{lt_z}
 use Rattle.std.specs.Int.{w32}
 use Rattle.std.proofs.Common.{to_z, of_z}

@@ -1,7 +1,7 @@
 -- Five of 02: how many filled registers a collect has met, and what an answer tells of it. All of it stands beside the
 -- listing, which never looks at the count.
 -- Relies on the listing's values; the calls and what their answers mean rely on it.
-use Rattle.model.specs.Kit.{ℕ, ◌+◌}
+use Rattle.std.specs.Prelude.{ℕ, ◌+◌}
 use Rattle.model.specs.Listing.{Register, empty, filled, Stage, writing, reading, has_decided, is_spent, Answer}
 use Rattle.model.specs.Listing.{wrote, read, went, marked, adopted, decided, spent, refused}
 

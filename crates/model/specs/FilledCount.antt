@@ -1,7 +1,7 @@
 -- Five of 02 on lists of calls: what a collect has met, and what the total of its last read tells.
 -- Relies on the calls and on the lists of demand 3; proofs/Bridge/FilledCount.antt proves `FilledCount`.
-use Rattle.model.specs.Kit.{Bool, true, false, cond, List, [], ◌∷◌, none, ℕ, ◌+◌, ◌-◌, ◌≤◌, eqb, length}
-use Rattle.std.specs.Prelude.{◌≡◌}
+use Rattle.std.specs.Prelude.{Bool, true, false, cond, List, [], ◌∷◌, ℕ, ◌+◌, ◌-◌, ◌≤◌, eqb, length, ◌≡◌}
+use Rattle.std.proofs.Math.Option.{none}
 use Rattle.model.specs.Figure.{Figure}
 use Rattle.model.specs.Listing.{Register, Answer, wrote, read, went, marked, adopted, decided, spent, refused}
 use Rattle.model.specs.Filled.{filled_in}

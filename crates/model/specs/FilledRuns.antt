@@ -1,7 +1,6 @@
 -- Five of 02 as worked runs: what each step of a run answers, and the number of filled registers that it tells with it.
 -- Relies on the calls; proofs/FilledRuns.antt proves `FilledRuns`.
-use Rattle.model.specs.Kit.{List, [], ◌∷◌, ◌++◌, ℕ, ◌+◌, replicate, pos, negsuc}
-use Rattle.std.specs.Prelude.{◌≡◌, map}
+use Rattle.std.specs.Prelude.{List, [], ◌∷◌, ◌++◌, ℕ, ◌+◌, replicate, pos, negsuc, ◌≡◌, map}
 use Rattle.model.specs.Figure.{Figure}
 use Rattle.model.specs.Listing.{in_m, Answer, wrote, read, went, marked, decided, refused}
 use Rattle.model.specs.Filled.{Report}

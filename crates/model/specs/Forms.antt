@@ -1,7 +1,8 @@
 -- A line of a run sheet: 01's grammar as a reader that computes, and refusals 2 to 4.
 -- Relies on bytes, figures, pairs and texts; the sheet relies on it. Nothing here knows the board.
-use Rattle.model.specs.Kit.{Bool, true, false, not, cond, ◌&&◌, ◌||◌, List, [], ◌∷◌, ◌++◌, Option, none, some, ℕ}
-use Rattle.model.specs.Kit.{zero, suc, ◌+◌, ◌*◌, ◌-◌, eqb, leb, ltb, length, drop, pos, negsuc}
+use Rattle.std.specs.Prelude.{Bool, true, false, not, cond, ◌&&◌, ◌||◌, List, [], ◌∷◌, ◌++◌, ℕ, zero, suc, ◌+◌, ◌*◌}
+use Rattle.std.specs.Prelude.{◌-◌, eqb, leb, ltb, length, drop, pos, negsuc}
+use Rattle.std.proofs.Math.Option.{Option, none, some}
 use Rattle.model.specs.Bytes.{byte}
 use Rattle.model.specs.Figure.{Figure}
 use Rattle.model.specs.Calls.{unless}

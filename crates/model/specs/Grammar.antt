@@ -1,7 +1,7 @@
 -- 01's grammar as a writer of forms, and the claims that the reader of Forms reads it and nothing else.
 -- Relies on the forms, texts and numbers; proofs/Sheet/Written.antt and proofs/Sheet/WrittenBack.antt prove the claims.
-use Rattle.model.specs.Kit.{List, [], ◌∷◌, ◌++◌, some, ℕ, ◌≤◌, length}
-use Rattle.std.specs.Prelude.{◌≡◌}
+use Rattle.std.specs.Prelude.{List, [], ◌∷◌, ◌++◌, ℕ, ◌≤◌, length, ◌≡◌}
+use Rattle.std.proofs.Math.Option.{some}
 use Rattle.std.specs.Int.{w32}
 use Rattle.std.proofs.Common.{SFits}
 use Rattle.model.specs.Bytes.{Each}

@@ -1,6 +1,6 @@
 -- The board: where its parts stand, and a register and a record as bytes and back.
 -- Relies on Bytes, Figure and the listing's values; soundness and the calls rely on it. It knows no algorithm.
-use Rattle.model.specs.Kit.{cond, List, [], ◌∷◌, ◌++◌, ℕ, zero, suc, ◌+◌, ◌*◌, ◌-◌, eqb, replicate, pos}
+use Rattle.std.specs.Prelude.{cond, List, [], ◌∷◌, ◌++◌, ℕ, zero, suc, ◌+◌, ◌*◌, ◌-◌, eqb, replicate, pos}
 use Rattle.model.specs.declared.Record.{Record}
 use Rattle.model.specs.declared.Register as Fields
 use Rattle.model.specs.Bytes.{byte, number, digits, part, splice}

@@ -1,15 +1,15 @@
 -- Six of 02 on lists of calls: a station that is left alone gets to a decision, and with one figure proposed by all
 -- each decides on island 0, whoever else moves. The field's term is termination.
 -- Relies on the calls and on the lists of demand 3; proofs/LeftRunning.antt proves `LeftRunning` for every list.
-use Rattle.model.specs.Kit.{List, none, ℕ, ◌+◌, ◌*◌, ◌-◌, ◌≤◌, replicate, take}
-use Rattle.std.specs.Prelude.{◌≡◌, ◌<◌}
+use Rattle.std.specs.Prelude.{List, ℕ, ◌+◌, ◌*◌, ◌-◌, ◌≤◌, replicate, take, ◌≡◌, ◌<◌}
+use Rattle.std.proofs.Math.Option.{none}
 use Rattle.std.specs.Int.{w32}
 use Rattle.std.proofs.Common.{SFits}
 use Rattle.model.specs.Figure.{Figure}
 use Rattle.model.specs.Listing.{Register, empty, filled, in_m, decided, goes_on, outcome}
 use Rattle.model.specs.Layout.{board_length, register_of}
 use Rattle.model.specs.Calls.{stations, islands, station_at, not_going, lay, propose, step, run}
-use Rattle.model.specs.Standing.{Standing, stands_idle, stands_going, stands_decided_lem, stands_spent, standing_of}
+use Rattle.model.specs.Standing.{Standing, stands_idle, stands_going, stands_decided, stands_spent, standing_of}
 use Rattle.model.specs.AnyList.{Call, after, AllAllowed, Some, Proposes, Decides, until}
 use Rattle.model.specs.Sheet.{play_board}
 use Rattle.model.specs.SheetList.{board_of, lines_calls, AllStay}
@@ -30,7 +30,7 @@ RoomAbove b = (j : ℕ) → j < stations b → UpTo (islands b - 2) (register_of
 unfoldable pub StandsUpTo : (k : ℕ) → Standing → Type 0
 StandsUpTo k stands_idle = Unit {0}
 StandsUpTo k (stands_going c x) = c ≤ k
-StandsUpTo k (stands_decided_lem c x) = c ≤ k
+StandsUpTo k (stands_decided c x) = c ≤ k
 StandsUpTo k (stands_spent c x) = c ≤ k
 
 -- "m is empty": nobody has taken a step
@@ -65,7 +65,7 @@ pub record Unanimous (n : ℕ) (b : List ℕ) (cs : List Call) (v : Figure) (i :
       → (step i (after cs b)).answer.did ≡ decided 0 v
   -- and however the list goes on, the station stands decided there and takes no step more
   pub ever_after : 3 * (n + 1) ≤ steps_in i cs b
-      → (standing_of (station_at i (after cs b)) ≡ stands_decided_lem 0 v) × (steps_in i cs b ≡ 3 * (n + 1))
+      → (standing_of (station_at i (after cs b)) ≡ stands_decided 0 v) × (steps_in i cs b ≡ 3 * (n + 1))
   -- no answer of the list is *decided* at another number of own steps, or with another figure
   pub only_then : (w : Figure) → Some (Decides i w) cs b → (steps_in i cs b ≡ 3 * (n + 1)) × (w ≡ v)
 
@@ -78,7 +78,7 @@ pub record Terminates (n : ℕ) (b : List ℕ) (cs : List Call) : Type 0 where
   -- and so a run of that many steps of the station leaves it standing decided
   pub run_alone : RoomAbove (after cs b) → (i : ℕ) → GoingOn i (after cs b)
       → (k : ℕ) × (v : Figure)
-      × (standing_of (station_at i (run (replicate (9 * (n + 1)) i) (after cs b)).bytes) ≡ stands_decided_lem k v)
+      × (standing_of (station_at i (run (replicate (9 * (n + 1)) i) (after cs b)).bytes) ≡ stands_decided k v)
   -- That there is room can be seen without a look at m: where every station stands up to island K − 2, there is.
   pub shown_room : ((j : ℕ) → 1 ≤ j → j ≤ n
       → StandsUpTo (islands (after cs b) - 2) (standing_of (station_at j (after cs b)))) → RoomAbove (after cs b)

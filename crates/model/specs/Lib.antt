@@ -1,5 +1,4 @@
 -- The definitions that a reader must believe, in the order of document 01. Proofs about them stand in proofs/.
-pub mod Kit
 pub mod Bytes
 pub mod Listing
 pub mod Filled

@@ -1,7 +1,8 @@
 -- The paper's two algorithms, one access to one register at a time, on values; line numbers are those of the listing in
 -- source 001. Knows nothing of bytes, and of figures only a test of equality and one of order.
 -- The layout, soundness and the calls rely on it, and all of demand 3.
-use Rattle.model.specs.Kit.{Bool, true, false, cond, ◌&&◌, ◌||◌, Option, none, some, ℕ, zero, suc, ◌+◌, eqb, ltb}
+use Rattle.std.specs.Prelude.{Bool, true, false, cond, ◌&&◌, ◌||◌, ℕ, zero, suc, ◌+◌, eqb, ltb}
+use Rattle.std.proofs.Math.Option.{Option, none, some}
 
 -- What the listing asks of figures: whether two are the same, and whether the first is above the second.
 pub record Order (F : Type 0) : Type 0 where

@@ -1,7 +1,7 @@
 -- 02, Four, figures put in together: the proposals of several stations in one call, all of them or none.
 -- Relies on the calls; the sheet's pairs, the public call and the claim that any order serves rely on it.
-use Rattle.model.specs.Kit.{Bool, true, not, ◌&&◌, List, [], ◌∷◌, none, some, ℕ, ◌/◌, ◌%◌}
-use Rattle.std.specs.Prelude.{map}
+use Rattle.std.specs.Prelude.{Bool, true, not, ◌&&◌, List, [], ◌∷◌, ℕ, ◌/◌, ◌%◌, map}
+use Rattle.std.proofs.Math.Option.{none, some}
 use Rattle.std.specs.Int.{w32}
 use Rattle.std.proofs.Common.{to_z, SFits}
 use Rattle.model.specs.Bytes.{names, Each}

@@ -1,7 +1,8 @@
 -- 02, One, "Halts by the round": a call that plays rounds, each spelled out as its single steps.
 -- Relies on the calls; the sheet's form `rounds`, the public call and the whole-step law rely on it.
-use Rattle.model.specs.Kit.{Bool, true, false, ◌&&◌, cond, List, [], ◌∷◌, ◌++◌, none, ℕ, zero, suc, ◌+◌}
-use Rattle.model.specs.Kit.{leb, ltb, length, replicate}
+use Rattle.std.specs.Prelude.{Bool, true, false, ◌&&◌, cond, List, [], ◌∷◌, ◌++◌, ℕ, zero, suc, ◌+◌, leb, ltb, length}
+use Rattle.std.specs.Prelude.{replicate}
+use Rattle.std.proofs.Math.Option.{none}
 use Rattle.model.specs.Bytes.{every, count, names, ended_by}
 use Rattle.model.specs.Figure.{Figure}
 use Rattle.model.specs.Listing.{writing, reading, has_decided, is_spent, Station, idle, active}
@@ -62,15 +63,15 @@ pub data RoundsAnswer : Type 0 where
   played : (rounds decided : ℕ) → RoundsAnswer
   not_played : (number : ℕ) → RoundsAnswer
 
-unfoldable pub stands_decided : Station Figure → Bool
-stands_decided idle = false
-stands_decided (active v (writing t c x)) = false
-stands_decided (active v (reading t c x p a)) = false
-stands_decided (active v (has_decided c x)) = true
-stands_decided (active v (is_spent c x)) = false
+unfoldable pub is_decided : Station Figure → Bool
+is_decided idle = false
+is_decided (active v (writing t c x)) = false
+is_decided (active v (reading t c x p a)) = false
+is_decided (active v (has_decided c x)) = true
+is_decided (active v (is_spent c x)) = false
 
 unfoldable pub decided_on : List ℕ → ℕ
-decided_on b = count (stations b) λ j. stands_decided (station_of (stations b) (islands b) j b)
+decided_on b = count (stations b) λ j. is_decided (station_of (stations b) (islands b) j b)
 
 -- the board d that the rounds leave, and what is answered of it
 unfoldable pub played_to : (rounds : ℕ) → List ℕ → After RoundsAnswer

@@ -1,7 +1,7 @@
 -- A run as its single steps: their answers, counted, and the board that they leave.
 -- Relies on the calls; proofs/Calls/Runs.antt proves the claims, and the code's run relies on them.
-use Rattle.model.specs.Kit.{cond, List, [], ◌∷◌, none, ℕ, ◌+◌, ◌≤◌, length}
-use Rattle.std.specs.Prelude.{◌≡◌}
+use Rattle.std.specs.Prelude.{cond, List, [], ◌∷◌, ℕ, ◌+◌, ◌≤◌, length, ◌≡◌}
+use Rattle.std.proofs.Math.Option.{none}
 use Rattle.model.specs.Figure.{Figure}
 use Rattle.model.specs.Listing.{Answer, accepted}
 use Rattle.model.specs.Filled.{Report}

@@ -1,6 +1,7 @@
 -- A form played on a board, and a whole run sheet to all that it prints.
 -- Relies on the forms, the calls and the shown line; the starred sheet and the player rely on it.
-use Rattle.model.specs.Kit.{cond, List, [], ◌∷◌, ◌++◌, none, some, ℕ, eqb, leb, length, take, drop, replicate}
+use Rattle.std.specs.Prelude.{cond, List, [], ◌∷◌, ◌++◌, ℕ, eqb, leb, length, take, drop, replicate}
+use Rattle.std.proofs.Math.Option.{none, some}
 use Rattle.model.specs.Bytes.{ended_by}
 use Rattle.model.specs.Figure.{Figure}
 use Rattle.model.specs.Layout.{board_length}

@@ -1,8 +1,8 @@
 -- How the lines of a sheet stand in the list of demand 3, with the claim that demand 3 holds of them, and which
 -- refusals no line prints.
 -- Relies on the sheet and on demand 3; proofs/Sheet/ListOfCalls.antt and proofs/Sheet/Fits.antt prove the claims.
-use Rattle.model.specs.Kit.{cond, List, [], ◌∷◌, ◌++◌, none, some, ℕ, leb, length, take, replicate}
-use Rattle.std.specs.Prelude.{◌≡◌, ◌⊎◌, map}
+use Rattle.std.specs.Prelude.{cond, List, [], ◌∷◌, ◌++◌, ℕ, leb, length, take, replicate, ◌≡◌, ◌⊎◌, map}
+use Rattle.std.proofs.Math.Option.{none, some}
 use Rattle.model.specs.Layout.{board_length}
 use Rattle.model.specs.Calls.{stations, lay}
 use Rattle.model.specs.Rounds.{rounds_refusal, rounds_steps}

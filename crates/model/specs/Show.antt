@@ -1,14 +1,15 @@
 -- The line that `show` hands back: "512 bytes, zeros after the line, and its length".
 -- Relies on how a station stands and on the calls' refusals; the sheet's printed lines rely on its texts and numbers.
-use Rattle.model.specs.Kit.{cond, List, [], ◌∷◌, ◌++◌, none, some, ℕ, zero, suc, ◌+◌, ◌-◌, ◌/◌, ◌%◌, leb, ltb}
-use Rattle.model.specs.Kit.{pos, negsuc, length, replicate}
+use Rattle.std.specs.Prelude.{cond, List, [], ◌∷◌, ◌++◌, ℕ, zero, suc, ◌+◌, ◌-◌, ◌/◌, ◌%◌, leb, ltb, pos, negsuc}
+use Rattle.std.specs.Prelude.{length, replicate}
+use Rattle.std.proofs.Math.Option.{none, some}
 use Prim.Native.Char.{code}
 use Prim.Native.String.{String, len, char_at}
 use Rattle.model.specs.Figure.{Figure}
 use Rattle.model.specs.Listing.{Station}
 use Rattle.model.specs.Layout.{station_of}
 use Rattle.model.specs.Calls.{Refusal, board_refusal, unless, stations, islands}
-use Rattle.model.specs.Standing.{Standing, stands_idle, stands_going, stands_decided_lem, stands_spent, standing_of}
+use Rattle.model.specs.Standing.{Standing, stands_idle, stands_going, stands_decided, stands_spent, standing_of}
 
 -- the bytes of an ASCII text
 unfoldable pub text_from : String → (k at : ℕ) → List ℕ
@@ -40,7 +41,7 @@ worded word c v = text word ++ text " " ++ decimal c ++ text " " ++ signed v
 unfoldable pub standing_text : Standing → List ℕ
 standing_text stands_idle = text "idle"
 standing_text (stands_going c x) = worded "going" c x
-standing_text (stands_decided_lem c x) = worded "decided" c x
+standing_text (stands_decided c x) = worded "decided" c x
 standing_text (stands_spent c x) = worded "spent" c x
 
 unfoldable pub status : Station Figure → List ℕ

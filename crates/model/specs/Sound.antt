@@ -1,6 +1,6 @@
 -- Soundness: 01's clauses on the bytes of a board, each a named test, in 01's order and with its words.
 -- Relies on the layout and the listing's values; the calls rely on it.
-use Rattle.model.specs.Kit.{Bool, true, false, not, ◌&&◌, ◌||◌, cond, List, ℕ, ◌+◌, ◌*◌, eqb, leb, ltb}
+use Rattle.std.specs.Prelude.{Bool, true, false, not, ◌&&◌, ◌||◌, cond, List, ℕ, ◌+◌, ◌*◌, eqb, leb, ltb}
 use Rattle.model.specs.Bytes.{byte, part, zeros, every, implies}
 use Rattle.model.specs.Figure.{Figure, figures, same_figure}
 use Rattle.model.specs.Listing.{Turn, turn_m, turn_a, turn_b, Seen, nothing, seen, Register, empty, filled, Stage}

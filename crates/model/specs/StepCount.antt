@@ -1,8 +1,8 @@
 -- Two of 02 on lists of calls: what planners read in a saved board is how many steps a station has taken.
 -- Relies on the calls, on the lists of demand 3 and on a sheet's lines as such a list; proofs/Bridge/StepCount.antt and
 -- proofs/Sheet/StepsOfLines.antt prove the two claims.
-use Rattle.model.specs.Kit.{◌&&◌, cond, List, [], ◌∷◌, none, ℕ, ◌+◌, ◌*◌, ◌≤◌, eqb, length, take}
-use Rattle.std.specs.Prelude.{◌≡◌, map}
+use Rattle.std.specs.Prelude.{◌&&◌, cond, List, [], ◌∷◌, ℕ, ◌+◌, ◌*◌, ◌≤◌, eqb, length, take, ◌≡◌, map}
+use Rattle.std.proofs.Math.Option.{none}
 use Rattle.std.specs.Int.{w32}
 use Rattle.std.proofs.Common.{SFits}
 use Rattle.model.specs.Figure.{Figure}

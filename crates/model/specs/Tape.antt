@@ -1,9 +1,9 @@
 -- 02, Seven, "Two tapes of one run": the line of a tape, the tape of a run sheet, and two tapes compared.
 -- Relies on the calls' answers, on the readers of numbers and on the single calls of a sheet's lines; the calls that
 -- compare tapes and the program that writes one rely on it.
-use Rattle.model.specs.Kit.{Bool, true, false, ◌&&◌, cond, List, [], ◌∷◌, ◌++◌, Option, none, some, ℕ, zero, suc}
-use Rattle.model.specs.Kit.{◌+◌, eqb, leb, length, drop, replicate}
-use Rattle.std.specs.Prelude.{map}
+use Rattle.std.specs.Prelude.{Bool, true, false, ◌&&◌, cond, List, [], ◌∷◌, ◌++◌, ℕ, zero, suc, ◌+◌, eqb, leb, length}
+use Rattle.std.specs.Prelude.{drop, replicate, map}
+use Rattle.std.proofs.Math.Option.{Option, none, some}
 use Prim.Native.String.{String}
 use Rattle.model.specs.Bytes.{byte}
 use Rattle.model.specs.Figure.{Figure}

@@ -1,6 +1,7 @@
 -- What each case of a declared answer says: 01's kind and values, or its refusal number.
 -- Relies on the declared types and the answers of the definitions; every contract of a call relies on it.
-use Rattle.model.specs.Kit.{cond, none, some, ℕ}
+use Rattle.std.specs.Prelude.{cond, ℕ}
+use Rattle.std.proofs.Math.Option.{none, some}
 use Rattle.model.specs.declared.StepAnswer.{StepAnswer}
 use Rattle.model.specs.declared.StepAnswer.TheVariants.{Wrote, Read, Went, Marked, Adopted, Decided, Spent}
 use Rattle.model.specs.declared.StepAnswer.TheVariants.{Refused}
@@ -24,7 +25,7 @@ use Rattle.model.specs.Listing.{wrote, read, went, marked, adopted, decided, spe
 use Rattle.model.specs.Filled.{Report, refusal}
 use Rattle.model.specs.Calls.{Refusal, RunAnswer, ran, not_run}
 use Rattle.model.specs.Rounds.{RoundsAnswer, played, not_played}
-use Rattle.model.specs.Standing.{Standing, stands_idle, stands_going, stands_decided_lem, stands_spent}
+use Rattle.model.specs.Standing.{Standing, stands_idle, stands_going, stands_decided, stands_spent}
 use Rattle.model.specs.Standing.{StandingAnswer, stands, not_told}
 use Rattle.model.specs.Show.{Shown}
 use Rattle.model.specs.Tape.{Tap, first, second, Compared, not_compared, alike, differs}
@@ -60,7 +61,7 @@ rounds_told (byRound.Refused k) = not_played k
 unfoldable pub standing_told : standings.Standing → Standing
 standing_told standing.Idle = stands_idle
 standing_told (standing.Going c v) = stands_going c v
-standing_told (standing.Decided c v) = stands_decided_lem c v
+standing_told (standing.Decided c v) = stands_decided c v
 standing_told (standing.Spent c v) = stands_spent c v
 
 unfoldable pub standing_answered : answers.StandingAnswer → StandingAnswer

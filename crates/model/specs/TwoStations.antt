@@ -1,8 +1,7 @@
 -- 02, Eight, saved boards of two stations: every list of calls from such a board, fresh but for the two proposals.
 -- Relies on the calls, on the lists of demand 3 and on stations left running; proofs/TwoStations.antt proves
 -- `SavedBoards` for every list.
-use Rattle.model.specs.Kit.{List, ℕ, ◌+◌, ◌*◌, ◌≤◌}
-use Rattle.std.specs.Prelude.{◌≡◌}
+use Rattle.std.specs.Prelude.{List, ℕ, ◌+◌, ◌*◌, ◌≤◌, ◌≡◌}
 use Rattle.std.specs.Int.{w32}
 use Rattle.std.proofs.Common.{SFits}
 use Rattle.model.specs.Figure.{Figure}

@@ -1,8 +1,8 @@
 -- What the single steps of a round are, as 02 says it: "every other going station takes one whole step, a write and its
 -- collect".
 -- Relies on the rounds and on the paper's lines of a collect; proofs/Bridge/SettledAgain.antt proves `WholeSteps`.
-use Rattle.model.specs.Kit.{true, List, [], ◌∷◌, ◌++◌, none, some, ℕ, zero, suc, ◌+◌, ◌*◌, ◌-◌, ◌≤◌, replicate}
-use Rattle.std.specs.Prelude.{◌≡◌, ◌<◌}
+use Rattle.std.specs.Prelude.{true, List, [], ◌∷◌, ◌++◌, ℕ, zero, suc, ◌+◌, ◌*◌, ◌-◌, ◌≤◌, replicate, ◌≡◌, ◌<◌}
+use Rattle.std.proofs.Math.Option.{none, some}
 use Rattle.model.specs.Figure.{Figure, figures}
 use Rattle.model.specs.Listing.{Turn, Register, Array, array, entry, writing, active, wrote, read, refused, Move}
 use Rattle.model.specs.Collects.{Ends}

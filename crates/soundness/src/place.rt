@@ -10,7 +10,7 @@ use codec::places::record_offset;
 // The refusal of a number that no station of the board has.
 pub const NO_STATION: u8 = 12;
 
-#[derive(Drop)]
+#[derive(Clone, Copy)]
 pub enum Place {
     At { index: usize, at: usize },
     Nowhere,

@@ -4,5 +4,5 @@ use Rattle.model.specs.declared.Record.{Record}
 use Rattle.archipelago.specs.declared.Moved.{Moved}
 use Rattle.stepper.specs.declared.Access.{Access}
 
-abbrev pub with-station : Record → Access → Moved
-with-station f a = record { station = f; register = a.register; writes = a.writes; answer = a.answer }
+abbrev pub with_station : Record → Access → Moved
+with_station f a = record { station = f; register = a.register; writes = a.writes; answer = a.answer }

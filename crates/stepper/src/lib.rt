@@ -1,13 +1,15 @@
 // A station's record, lent: the move of `archipelago`, made in place on the one record that is lent, so that no other record
 // can be touched. Relies on `advance`, which does the work by value; the step of a board relies on `move_station`.
+#![tactic(auto)]
+
 ghost use Rattle.archipelago.specs.Advanced.{Moves, Ready};
-ghost use Rattle.stepper.specs.InPlace.{with-station};
+ghost use Rattle.stepper.specs.InPlace.{with_station};
 
 use archipelago::{Moved, advance};
 use model::{Record, Register, StepAnswer};
 
 // What a move leaves beside the record: the register that it wrote, if it writes, and the answer.
-#[derive(Drop)]
+#[derive(Clone, Copy)]
 pub struct Access {
     pub register: Register,
     pub writes: bool,
@@ -17,7 +19,7 @@ pub struct Access {
 // The record is read whole, moved by value, and stored whole.
 fn advance_record(lent: &mut Record, n: u8, k: u8, register: Register) -> Access
     requires { Ready n k lent.old }
-    ensures { Moves n k lent.old register (with-station lent.new result) }
+    ensures { Moves n k lent.old register (with_station lent.new result) }
 {
     let before = *lent;
     let moved = advance(n, k, before, register);
@@ -30,7 +32,7 @@ fn advance_record(lent: &mut Record, n: u8, k: u8, register: Register) -> Access
     }
 }
 
-// The one lender. Its contract is by value and that of `advance`, so whoever calls it needs no walk.
+// The one lender. Its contract is by value and that of `advance`, so no caller handles a reference.
 pub fn move_station(n: u8, k: u8, station: Record, register: Register) -> Moved
     requires { Ready n k station }
     ensures { Moves n k station register result }

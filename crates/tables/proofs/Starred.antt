@@ -23,7 +23,7 @@ use Rattle.model.specs.Calls.{station_refusal, station_at, unless_refused, lay, 
 use Rattle.model.specs.Calls.{put_register, two_refusal, not_idle, propose, not_going, access, stepped, step_on, step}
 use Rattle.model.specs.Calls.{ran_from, run}
 use Rattle.model.specs.Rounds.{in_turn, round_steps, rounds_steps, settled, all_settled, rising, round_known}
-use Rattle.model.specs.Rounds.{rounds_known, rounds_refusal, stands_decided, decided_on, played_to, rounds}
+use Rattle.model.specs.Rounds.{rounds_known, rounds_refusal, is_decided, decided_on, played_to, rounds}
 use Rattle.model.specs.Proposals.{named, each_once, first_fault, pairs_refusal, proposals_refusal, one_by_one}
 use Rattle.model.specs.Proposals.{propose_all}
 use Rattle.model.specs.Standing.{standing_of}
@@ -56,7 +56,7 @@ unfolding Starred Holds rise rows edges sheet as_lines lay_in number digits part
     board_row propose_row steps_row show_row rounds_row row_in up_to_stop first_word word_place form_in one too_deep or_four read_line
     refused_text or_refused laid_text proposed_text ran_text shown_text turned_down play_board on_board play_form play_reading
     play_line on_first ended_by printed play_sheet outcome ranges count list_in stations_in round_in rounds_in names in_turn
-    round_steps rounds_steps settled all_settled rising round_known rounds_known rounds_refusal stands_decided decided_on
+    round_steps rounds_steps settled all_settled rising round_known rounds_known rounds_refusal is_decided decided_on
     played_to rounds played_text pair_in pairs_in single_in together_in named each_once first_fault pairs_refusal
     proposals_refusal one_by_one propose_all together_text on_saved start laid_ranges two_refusal
 starred = (

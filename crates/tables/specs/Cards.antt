@@ -1,8 +1,7 @@
 -- The wrong cards of 01's checklist and its forbidden shortcuts, each as a step on bytes, in one table: on a named
 -- board each answers or leaves something else than `step` does, so none of them can meet the equation of a step.
 -- Relies on the calls and the sheet; proofs/Cards.antt proves the one statement `ShutOut`.
-use Rattle.model.specs.Kit.{cond, List, [], ◌∷◌, ◌++◌, ℕ, zero, suc, ◌+◌, ◌-◌, ltb, replicate, pos}
-use Rattle.std.specs.Prelude.{◌≡◌}
+use Rattle.std.specs.Prelude.{cond, List, [], ◌∷◌, ◌++◌, ℕ, zero, suc, ◌+◌, ◌-◌, ltb, replicate, pos, ◌≡◌}
 use Rattle.model.specs.Figure.{Figure, figures}
 use Rattle.model.specs.Listing.{Register, empty, filled, Turn, turn_m, turn_a, turn_b, first, second, third, Seen}
 use Rattle.model.specs.Listing.{nothing, seen, Stage, writing, reading, has_decided, is_spent}

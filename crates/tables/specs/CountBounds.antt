@@ -1,7 +1,7 @@
 -- The bounds on a record's two counts as a table: for each phase a board on which they may say so many, and no more.
 -- Relies on the calls; proofs/CountBounds.antt proves `CountBounds`.
-use Rattle.model.specs.Kit.{List, [], ◌∷◌, Option, none, some, ℕ, ◌+◌, replicate, pos}
-use Rattle.std.specs.Prelude.{◌≡◌, map}
+use Rattle.std.specs.Prelude.{List, [], ◌∷◌, ℕ, ◌+◌, replicate, pos, ◌≡◌, map}
+use Rattle.std.proofs.Math.Option.{Option, none, some}
 use Rattle.model.specs.Bytes.{splice}
 use Rattle.model.specs.Figure.{Figure}
 use Rattle.model.specs.Listing.{commit, turn_m, turn_a, turn_b, first, second, nothing, seen, Register, Stage}

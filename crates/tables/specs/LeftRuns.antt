@@ -1,7 +1,6 @@
 -- Six of 02 as worked runs: a station left alone that needs all three passes, and the same one where m leaves no room.
 -- Relies on the calls and on the claim of Six; proofs/LeftRuns.antt proves `LeftRuns`.
-use Rattle.model.specs.Kit.{List, [], ◌∷◌, ◌++◌, ℕ, replicate, pos, negsuc}
-use Rattle.std.specs.Prelude.{◌≡◌}
+use Rattle.std.specs.Prelude.{List, [], ◌∷◌, ◌++◌, ℕ, replicate, pos, negsuc, ◌≡◌}
 use Rattle.model.specs.Listing.{decided, spent, refused}
 use Rattle.model.specs.Calls.{step}
 use Rattle.model.specs.Runs.{after}

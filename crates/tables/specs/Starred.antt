@@ -1,8 +1,8 @@
 -- The starred runs of 01 as one table: a row is what the definitions give and what 01 says they give.
 -- Relies on the sheet, the laying, the order and the saved boards of two stations; proofs/Starred.antt proves the one
 -- statement `Starred`.
-use Rattle.model.specs.Kit.{Bool, true, ◌&&◌, List, [], ◌∷◌, ◌++◌, none, some, ℕ, length, replicate, pos, negsuc}
-use Rattle.std.specs.Prelude.{◌≡◌, map}
+use Rattle.std.specs.Prelude.{Bool, true, ◌&&◌, List, [], ◌∷◌, ◌++◌, ℕ, length, replicate, pos, negsuc, ◌≡◌, map}
+use Rattle.std.proofs.Math.Option.{none, some}
 use Prim.Native.String.{String}
 use Rattle.model.specs.Figure.{Figure, figure, above}
 use Rattle.model.specs.Calls.{After, Refusal, lay}

@@ -1,7 +1,7 @@
 -- The line of a tape as it is written and as it is read, and the algorithm's own tape.
 -- Relies on the model's tape; LinesRead, LinesWritten, OwnTape and Unbroken of proofs/ prove the claims.
-use Rattle.model.specs.Kit.{true, List, ℕ, some, ◌≤◌}
-use Rattle.std.specs.Prelude.{◌≡◌}
+use Rattle.std.specs.Prelude.{true, List, ℕ, ◌≤◌, ◌≡◌}
+use Rattle.std.proofs.Math.Option.{some}
 use Rattle.std.specs.Int.{w32}
 use Rattle.std.proofs.Common.{SFits}
 use Rattle.model.specs.Figure.{Figure}

@@ -1,7 +1,7 @@
 -- Two tapes of one run compared: what the answer says of their lines, and which tape's line is returned.
 -- Relies on the model's tape; Compared, Culprits and Parts of proofs/ prove the claims.
-use Rattle.model.specs.Kit.{true, List, ℕ, some, ◌≤◌, length, take, drop}
-use Rattle.std.specs.Prelude.{◌≡◌, ◌<◌}
+use Rattle.std.specs.Prelude.{true, List, ℕ, ◌≤◌, length, take, drop, ◌≡◌, ◌<◌}
+use Rattle.std.proofs.Math.Option.{some}
 use Rattle.model.specs.Bytes.{Each}
 use Rattle.model.specs.Sheet.{lines_of}
 use Rattle.model.specs.Tape.{line_at, own_lines, taped, Tap, first, second, not_compared, alike, differs, compare}

@@ -92,7 +92,7 @@ self_law x = T_true (same_figure x x) (same_refl x)
 
 -- a figure in range is the number of its bits
 pub landed : (v : Figure) → mag v < 2 ^ hbits w32 → to_z w32 (of_z w32 v) ≡ v
-landed v f = to_z-of_z (record { sfits = f })
+landed v f = to_z-of_z {w = w32} {z = v} (record { sfits = f })
 
 -- its sign is that of the number read back from its bits, which is the one that the code tests
 pub sign : (v : Figure) → SFits w32 v → (t : Bool) → lt_z (to_z w32 (of_z w32 v)) (pos 0) ≡ t → lt_z v (pos 0) ≡ t

@@ -1,6 +1,6 @@
 -- What changes on a board keeps it sound: one register of a station, then that station's record.
 -- Relies on Boards and Values; that the calls keep a board sound relies on it.
-use Rattle.model.proofs.Kit.{◌≡◌, refl, sym, ap, subst, List, some, ℕ, ◌≤◌, ◌<◌, leb, T, lit≤, le→leb}
+use Rattle.model.proofs.Kit.{◌≡◌, refl, sym, ap, subst, List, some, ℕ, ◌<◌, leb, T, lit≤, le→leb}
 use Rattle.model.proofs.Kit.{ℕ_discrete, arith}
 use mathlib.Core.Path.{subst⁻¹}
 use Rattle.model.specs.declared.Record.{Record}

@@ -3,7 +3,7 @@
 use Rattle.model.proofs.Kit.{◌≡◌, refl, ap, ◌∙◌, ℕ, zero, suc, ◌≤◌, ◌<◌, arith}
 use Rattle.model.specs.declared.Record.{Record}
 use Rattle.model.specs.Layout.{record_value, of_phase, writing_of, reading_of}
-use Rattle.model.specs.Standing.{stands_idle, stands_going, stands_decided_lem, stands_spent, standing_of}
+use Rattle.model.specs.Standing.{stands_idle, stands_going, stands_decided, stands_spent, standing_of}
 
 idle_at : (f : Record) → standing_of (of_phase 0 f) ≡ stands_idle
 unfolding of_phase standing_of
@@ -20,7 +20,7 @@ going_at (suc (suc (suc (suc (suc zero))))) f n h = refl
 going_at (suc (suc (suc (suc (suc (suc zero)))))) f n h = refl
 going_at (suc (suc (suc (suc (suc (suc (suc p))))))) f n h = absurd (omega arith)
 
-decided_at_lem : (f : Record) → standing_of (of_phase 7 f) ≡ stands_decided_lem f.island f.carried
+decided_at_lem : (f : Record) → standing_of (of_phase 7 f) ≡ stands_decided f.island f.carried
 unfolding of_phase standing_of
 decided_at_lem f = refl
 
@@ -46,7 +46,7 @@ module _ (f : Record) where
   unfolding record_value
   going_stands n h = going_at f.phase f n h
 
-  pub decided_stands : f.phase ≡ 7 → standing_of (record_value f) ≡ stands_decided_lem f.island f.carried
+  pub decided_stands : f.phase ≡ 7 → standing_of (record_value f) ≡ stands_decided f.island f.carried
   unfolding record_value
   decided_stands e = ap (λ (p : ℕ). standing_of (of_phase p f)) e ∙ decided_at_lem f
 

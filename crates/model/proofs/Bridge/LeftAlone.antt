@@ -12,7 +12,7 @@ use Rattle.model.specs.Layout.{register_of, station_of}
 use Rattle.model.specs.Calls.{After, RunAnswer, step, run, stations, islands, station_at, not_going}
 use Rattle.model.specs.AnyList.{stepping, called, Some, Decides, ends, until}
 use Rattle.model.specs.Runs as runs
-use Rattle.model.specs.Standing.{stands_decided_lem, standing_of}
+use Rattle.model.specs.Standing.{stands_decided, standing_of}
 use Rattle.model.specs.LeftRunning.{UpTo, StandsUpTo, RoomAbove, NobodyStepped, GoingOn, DecidesWithin}
 use Rattle.model.proofs.Basics.Numbers.{same_law, self_law}
 use Rattle.model.proofs.Board.Places.{InBoard}
@@ -27,6 +27,7 @@ use Rattle.model.proofs.Agreement.State.{State}
 use Rattle.model.proofs.Agreement.Cells.{cells}
 use Rattle.model.proofs.Agreement.Registers.{Holds}
 use Rattle.model.proofs.Termination.Climbs.{Safe, island_at}
+use Rattle.model.proofs.Termination.Rest.{alone_steps}
 use Rattle.model.proofs.Termination.Passes.{Below, Near}
 use Rattle.model.proofs.Termination.LeftAlone as state
 use Rattle.model.proofs.Termination.LeftAlone.{Highest, highest, Before}
@@ -134,7 +135,7 @@ module _ (n K : ℕ) (b : List ℕ) (r : Ready n K b) where
       rw (r.is_n, r.is_k) (own_room (K - 2) (station_of n K j b) (register_of n in_m j b) shown own)
 
   module _ (two : 2 ≤ K) (h : Safe n (cells st)) where
-    pub decides_alone : RoomAbove b → (i : ℕ) → GoingOn i b → (steps : ℕ) → 9 * (n + 1) ≤ steps
+    pub decides_alone : RoomAbove b → (i : ℕ) → GoingOn i b → (steps : ℕ) → alone_steps n ≤ steps
         → DecidesWithin steps i b
     unfolding DecidesWithin
     decides_alone q i g steps enough =
@@ -169,7 +170,7 @@ until_decides i k v (suc fuel) b e =
 
 pub run_decides : (n K : ℕ) (b : List ℕ) → Held n K b → (i k : ℕ) (v : Figure) (steps : ℕ) → steps ≤ 65536
     → (until steps i b).answer.did ≡ decided k v
-    → (j : ℕ) × (standing_of (station_at i (run (replicate steps i) b).bytes) ≡ stands_decided_lem j v)
+    → (j : ℕ) × (standing_of (station_at i (run (replicate steps i) b).bytes) ≡ stands_decided j v)
 unfolding station_at standing_of runs.RunsCount
 run_decides n K b h i k v steps few e =
     let is : List ℕ = replicate steps i in

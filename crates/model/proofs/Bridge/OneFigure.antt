@@ -8,7 +8,7 @@ use Rattle.model.specs.Listing.{Stage, has_decided, Station, idle, active, decid
 use Rattle.model.specs.Layout.{station_of}
 use Rattle.model.specs.Sound.{present_pass, turns_before, island_of, most_steps}
 use Rattle.model.specs.Calls.{station_at, propose, step}
-use Rattle.model.specs.Standing.{stands_decided_lem, standing_of}
+use Rattle.model.specs.Standing.{stands_decided, standing_of}
 use Rattle.model.specs.AnyList.{Call, after, AllAllowed, Some, Proposes}
 use Rattle.model.specs.StepCount.{steps_in}
 use Rattle.model.specs.LeftRunning.{OneFigure, Unanimous}
@@ -159,7 +159,7 @@ module _ (n K : ℕ) (b : List ℕ) (h : Held n K b) (fresh : view n K b ≡ ini
       ⊎_elim (λ q. answers v s e q.0) (λ d. absurd (omega (arith, d.1))) (stage_here v s e)
 
   stands_so : (z : Station Figure) → station_of n K (i - 1) end ≡ z → 3 * (n + 1) ≤ steps_in i cs b
-      → (standing_of z ≡ stands_decided_lem 0 v) × (steps_in i cs b ≡ 3 * (n + 1))
+      → (standing_of z ≡ stands_decided 0 v) × (steps_in i cs b ≡ 3 * (n + 1))
   unfolding most_steps standing_of
   stands_so idle e l = absurd (omega (arith, rw e at steps_here))
   stands_so (active w s) e l =

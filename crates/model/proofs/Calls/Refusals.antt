@@ -101,8 +101,8 @@ laid_in : (n : ℕ) → T (laid_ranges.stations_in n) → (1 ≤ n) × (n ≤ 16
 unfolding laid_ranges
 laid_in n t =
     ⊎_elim (λ s. let e = eqb→eq n 1 s in (omega arith, omega arith, λ q. omega arith))
-    (λ s. let w = within 3 16 n s in (omega (arith, w.0), w.1, λ q. omega (arith, w.0)))
-    (or_case (eqb n 1) (leb 3 n && leb n 16) t)
+    (λ s. let w = within _ 16 n s in (omega (arith, w.0), w.1, λ q. omega (arith, w.0)))
+    (or_case (eqb n 1) _ t)
 
 pub inside_laid : Inside laid_ranges
 unfolding ranges laid_ranges

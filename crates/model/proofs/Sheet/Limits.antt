@@ -5,7 +5,7 @@ use Rattle.model.proofs.Kit.{◌*◌, lit<, lit≤, length, take, length-append,
 use native.Mathlib.Nat.{suc-mul}
 use Rattle.model.specs.Calls.{unless, ran, step}
 use Rattle.model.specs.Show.{text_from, text}
-use Rattle.model.specs.Forms.{Form, times, steps, repeated, expand, found, and_then, spaced, digit, digits_from}
+use Rattle.model.specs.Forms.{Form, steps, repeated, expand, found, and_then, spaced, digit, digits_from}
 use Rattle.model.specs.Forms.{natural, number_in, figure_in}
 use Rattle.model.specs.Forms.{behind, times_in, item_in, items_in, same, closing, board_row, propose_row, steps_row}
 use Rattle.model.specs.Forms.{show_row, list_in, stations_in, round_in, rounds_in, rounds_row, pair_in, pairs_in}

@@ -6,7 +6,7 @@ use Rattle.model.proofs.Kit.{lit<, length, drop, w32, SFits, add-one, arith}
 use Rattle.model.specs.Bytes.{byte, Each}
 use Rattle.model.specs.Calls.{Refusal, unless}
 use Rattle.model.specs.Show.{text_from, text, decimal, signed}
-use Rattle.model.specs.Forms.{times, Items, done, next, Form, board, propose, steps, show, Read, found, and_then}
+use Rattle.model.specs.Forms.{Items, done, next, Form, board, propose, steps, show, Read, found, and_then}
 use Rattle.model.specs.Forms.{spaced, number_in, figure_in, behind, times_in, item_in, items_in}
 use Rattle.model.specs.Forms.{same, closing, WordRow, board_row, propose_row, steps_row, show_row, word_rows, row_in}
 use Rattle.model.specs.Forms.{up_to_stop, rounds, rounds_in, rounds_row, proposals, pairs_in, single_in, together_in}

@@ -17,7 +17,7 @@ use Rattle.model.proofs.Agreement.Invariant.{Kept, own_at}
 use Rattle.model.proofs.Sequential.Turns.{step_until}
 use Rattle.model.proofs.Sequential.Alone.{alone}
 use Rattle.model.proofs.Termination.Climbs.{reach_a, climbed, Reached, Safe, island_at, sights_at}
-use Rattle.model.proofs.Termination.Rest.{Decides, Within, rest_a, rest_b, turn_b_lem}
+use Rattle.model.proofs.Termination.Rest.{alone_steps, Decides, Within, rest_a, rest_b, turn_b_lem}
 use Rattle.model.proofs.Termination.Passes.{Below, Near, Clear, Peak, to_top, next_pass, after_b, from_a, rest_m}
 use Rattle.model.proofs.Termination.Passes.{decides_on_top}
 
@@ -170,7 +170,7 @@ module _ {F : Type 0} where
     abbrev more : ℕ
     more = 6 * (n + 1)
 
-    by_stage : (s : Stage F) → st.station i ≡ active v s → Going s → Before n s → Runs (9 * (n + 1)) s
+    by_stage : (s : Stage F) → st.station i ≡ active v s → Going s → Before n s → Runs (alone_steps n) s
     unfolding cells array
     by_stage (writing turn_m c x) is g b fuel enough =
         let up : c ≤ top = subst (λ (z : Station F). climbed z ≤ top) is (climbed_low n st h top low i) in
@@ -206,7 +206,7 @@ module _ {F : Type 0} where
     by_stage (is_spent c x) is g b fuel enough = absurd g
 
     pub left_alone : (s : Stage F) → st.station i ≡ active v s → Going s → Before n s
-        → (fuel : ℕ) → 9 * (n + 1) ≤ fuel → Decides (step_until o n K fuel i st)
+        → (fuel : ℕ) → alone_steps n ≤ fuel → Decides (step_until o n K fuel i st)
     left_alone s is g b fuel enough =
         subst (λ (z : State F). Decides (step_until o n K fuel i z)) (alone_is i v s st is)
         (by_stage s is g b fuel enough)

@@ -1,7 +1,7 @@
 -- A station alone from the middle of its pass: the rest of a collect from any position, with anything seen, and the
 -- turns of A and B to their ends. How many steps are enough is said for every fuel from a number on.
 -- Relies on the steps of a station alone; the passes that lead to a decision rely on it.
-use Rattle.model.proofs.Kit.{◌≡◌, refl, ℕ, zero, suc, ◌+◌, ◌-◌, ◌≤◌, ◌<◌, arith}
+use Rattle.model.proofs.Kit.{◌≡◌, refl, ℕ, zero, suc, ◌+◌, ◌-◌, ◌*◌, ◌≤◌, ◌<◌, arith}
 use Rattle.model.specs.Listing.{Order, Flag, flag_number, Turn, turn_m, turn_a, turn_b, first, second, third, Seen}
 use Rattle.model.specs.Listing.{nothing, seen, Stage, writing, reading, has_decided, Station, decided, marked}
 use Rattle.model.specs.Listing.{adopted, adopt, commit, Move, outcome, array, entry, stay, finish, ended, see}
@@ -10,6 +10,10 @@ use Rattle.model.proofs.Sequential.Turns.{Ended, go_on}
 use Rattle.model.proofs.Sequential.Registers.{Registers, write}
 use Rattle.model.proofs.Sequential.Alone.{settle, step_write, step_read, step_last}
 use Rattle.model.proofs.Sequential.Pass.{run, goes_on}
+
+-- the steps of three passes, which are enough for a station that is left alone with room above it
+abbrev pub alone_steps : (n : ℕ) → ℕ
+alone_steps n = 9 * (n + 1)
 
 module _ {F : Type 0} where
   -- the run ended with a decision

@@ -1,0 +1,30 @@
+-- `places::record_offset` meets its contract:
+-- no part overflows, since the products are bounded by those of sixteen and sixty-four.
+use Rattle.model.proofs.Kit.{mul-le-mul, arith}
+use Rattle.model.specs.Layout.{record_at}
+use Rattle.codec.proofs.places.record_offset.Goals as goal
+
+pub overflow_mul-result : goal.overflow_mul-result
+overflow_mul-result c = omega (arith, mul-le-mul c.requires.0 c.requires.1)
+
+pub overflow_add-result : goal.overflow_add-result
+overflow_add-result c = omega (arith, mul-le-mul c.requires.0 c.requires.1)
+
+pub overflow_mul-result-2 : goal.overflow_mul-result-2
+overflow_mul-result-2 c = omega (arith, mul-le-mul c.requires.0 c.requires.1)
+
+pub overflow_mul-result-3 : goal.overflow_mul-result-3
+overflow_mul-result-3 c = omega (arith, mul-le-mul c.requires.0 c.requires.1)
+
+pub overflow_add-result-2 : goal.overflow_add-result-2
+overflow_add-result-2 c = omega (arith, mul-le-mul c.requires.0 c.requires.1)
+
+pub overflow_mul-result-4 : goal.overflow_mul-result-4
+overflow_mul-result-4 c = omega (arith, mul-le-mul c.requires.0 c.requires.1)
+
+pub overflow_add-result-3 : goal.overflow_add-result-3
+overflow_add-result-3 c = omega (arith, mul-le-mul c.requires.0 c.requires.1)
+
+pub returns : goal.returns
+unfolding record_at
+returns c = omega (arith, mul-le-mul c.requires.0 c.requires.1)

@@ -1,0 +1,12 @@
+-- `stations_in_range`: below the range, or up to its end.
+use Rattle.model.specs.Calls.{ranges}
+use Rattle.soundness.proofs.Laws.Verdicts.{below_range, up_to}
+use Rattle.soundness.proofs.shape.stations_in_range.Goals as goal
+
+pub returns-then-n-lt1 : goal.returns-then-n-lt1
+unfolding ranges
+returns-then-n-lt1 c = search below_range
+
+pub returns : goal.returns
+unfolding ranges
+returns c = search up_to

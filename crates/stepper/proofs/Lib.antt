@@ -1,2 +1,0 @@
--- What the walks of the functions share.
-pub mod Walking
