@@ -1,5 +1,7 @@
 // One step of one station: the register it touches, the listing's move, and what is put back.
 // Relies on the codec and on the stepper of a lent record; the steps of a sound board rely on it.
+#![tactic(auto)]
+
 ghost use Rattle.std.specs.Prelude.{◌≡◌, ◌+◌, ◌≤◌, ◌<◌, get_or, length};
 ghost use Rattle.model.specs.Filled.{filled_in, report};
 ghost use Rattle.model.specs.Layout.{register_value};

@@ -1,126 +1,137 @@
--- The line of an answer piece by piece: the room that each piece finds, their order, and the lines of the forms as
--- answers.
+-- The lines of a run sheet's forms piece by piece: the room that each piece finds, and their order.
 -- Relies on Putting, Rooms and Bounds; the proofs of src/lib.rt rely on it.
-use Rattle.model.proofs.Kit.{◌≡◌, sym, ap, subst, ◌∙◌, List, [], ◌∷◌, ◌++◌, append_assoc, ℕ, arith}
+use Rattle.model.proofs.Kit.{◌≡◌, sym, subst, List, [], ◌∷◌, ◌++◌, append_assoc, ℕ, ◌≤◌, ◌<◌, pos, length, arith}
 use Rattle.model.specs.Figure.{Figure}
 use Rattle.model.specs.Show.{text, text_from, decimal, signed}
 use Rattle.model.specs.Calls.{ran}
 use Rattle.model.specs.Rounds.{played}
-use Rattle.model.specs.Sheet.{refused_text, laid_text, proposed_text, together_text, ran_text, played_text}
+use Rattle.model.specs.Sheet.{laid_text, proposed_text, ran_text, played_text}
 use Rattle.line_writer.specs.declared.line.Line.{Line}
 use Rattle.line_writer.specs.Puts.{Holds, Puts, Room}
-use Rattle.line_writer.proofs.Putting.{puts_nothing, puts_then, puts_same, puts_holds}
-use Rattle.line_writer.proofs.Rooms.{Rooms, rooms, holds_room, room_same, room_first, room_next}
-use Rattle.words.specs.Store.{words, word_text}
-use Rattle.words.specs.Index as index
-use Rattle.answer_writer.specs.declared.More.{More}
-use Rattle.answer_writer.specs.declared.More.TheVariants as more
-use Rattle.answer_writer.specs.Texts.{more_text, answer_text}
-use Rattle.answer_writer.proofs.Bounds.{answer_short}
+use Rattle.answer_writer.specs.Texts.{numbered_text, two_numbers}
+use Rattle.line_writer.proofs.Putting.{puts_then, puts_holds}
+use Rattle.line_writer.proofs.Rooms.{Rooms, rooms, rooms_three, rooms_four, holds_room, room_same}
+use Rattle.answer_writer.proofs.Bounds.{numbered_short, laid_short, proposed_short, ran_short, played_short}
 
--- ---- what comes behind the first number: m is that, as the code finds it, and 32 is the space
+-- ---- two numbers
 
-module _ (m : More) where
-  pub nothing_puts : (line : Line) → m ≡ more.Nothing → Puts line (more_text m) line
-  unfolding more_text
-  nothing_puts line e = puts_same (sym (ap more_text e)) (puts_nothing line)
+-- each piece has room where the one before it ends; 32 is the space, 41 is ")"
+module _ {line : Line} (x y : ℕ) (h : Room line (two_numbers x y)) where
+  two_rooms : Rooms line (decimal x) (32 ∷ []) (decimal y) (41 ∷ []) []
+  unfolding two_numbers text text_from
+  two_rooms = rooms_four (decimal x) _ (decimal y) _ h
 
-  module _ (x : ℕ) (e : m ≡ more.Number x) where
-    number_is : more_text m ≡ (32 ∷ []) ++ decimal x
-    unfolding more_text text text_from
-    number_is = ap more_text e
+  pub two_first : Room line (decimal x)
+  two_first = two_rooms.first
 
-    pub number_space : {line : Line} → Room line (more_text m) → Room line (32 ∷ [])
-    number_space h = room_first (32 ∷ []) (decimal x) (room_same number_is h)
+  module _ {a : Line} (p : Puts line (decimal x) a) where
+    pub two_space : Room a (32 ∷ [])
+    two_space = two_rooms.second p
 
-    pub number_room : {line a : Line} → Room line (more_text m) → Puts line (32 ∷ []) a → Room a (decimal x)
-    number_room h p = room_next (32 ∷ []) (decimal x) (room_same number_is h) p
+    module _ {b : Line} (q : Puts a (32 ∷ []) b) where
+      pub two_second : Room b (decimal y)
+      two_second = two_rooms.third p q
 
-    pub number_puts : {line a r : Line} → Puts line (32 ∷ []) a → Puts a (decimal x) r → Puts line (more_text m) r
-    number_puts p q = puts_same (sym number_is) (puts_then p q)
+      pub two_close : {d : Line} → Puts b (decimal y) d → Room d (41 ∷ [])
+      two_close s = two_rooms.fourth p q s
 
-  -- z is the figure that the code passed on
-  module _ (v : Figure) (e : m ≡ more.Figure v) where
-    figure_is : more_text m ≡ (32 ∷ []) ++ signed v
-    unfolding more_text text text_from
-    figure_is = ap more_text e
+pub puts_two : {line a b d r : Line} (x y : ℕ) → Puts line (decimal x) a → Puts a (32 ∷ []) b → Puts b (decimal y) d
+    → Puts d (41 ∷ []) r → Puts line (two_numbers x y) r
+unfolding two_numbers text text_from
+puts_two x y p q s t = puts_then (puts_then (puts_then p q) s) t
 
-    pub figure_space : {line : Line} → Room line (more_text m) → Room line (32 ∷ [])
-    figure_space h = room_first (32 ∷ []) (signed v) (room_same figure_is h)
+-- a word before two numbers, as one text
+two_behind : (w a b c d : List ℕ) → w ++ (a ++ b ++ c ++ d) ≡ w ++ a ++ b ++ c ++ d
+two_behind w a b c d = simp append_assoc
 
-    pub figure_room : {line a : Line} → Room line (more_text m) → Puts line (32 ∷ []) a → (z : Figure) → z ≡ v
-        → Room a (signed z)
-    figure_room {a = a} h p z l =
-        subst (λ (x : Figure). Room a (signed x)) (sym l)
-        (room_next (32 ∷ []) (signed v) (room_same figure_is h) p)
+laid_is : (n K : ℕ) → text "(laid " ++ two_numbers n K ≡ laid_text n K
+unfolding laid_text two_numbers
+laid_is n K = two_behind (text "(laid ") (decimal n) (text " ") (decimal K) (text ")")
 
-    pub figure_puts : {line a r : Line} → Puts line (32 ∷ []) a → (z : Figure) → Puts a (signed z) r → z ≡ v
-        → Puts line (more_text m) r
-    figure_puts {a = a} {r = r} p z q l =
-        puts_same (sym figure_is) (puts_then p (subst (λ (x : Figure). Puts a (signed x) r) l q))
+ran_is : (s t : ℕ) → text "(ran " ++ two_numbers s t ≡ ran_text (ran s t)
+unfolding ran_text two_numbers
+ran_is s t = two_behind (text "(ran ") (decimal s) (text " ") (decimal t) (text ")")
 
--- ---- the pieces of an answer, behind its bracket; 40 is "(", 41 is ")"
+played_is : (r d : ℕ) → text "(played " ++ two_numbers r d ≡ played_text (played r d)
+unfolding played_text two_numbers
+played_is r d = two_behind (text "(played ") (decimal r) (text " ") (decimal d) (text ")")
 
-module _ {none begun : Line} (h : Holds none []) (o : Puts none (40 ∷ []) begun) (word a : ℕ) (m : More) where
-  answer_rooms : Rooms begun (word_text word) (32 ∷ []) (decimal a) (more_text m) (41 ∷ [])
-  unfolding answer_text text text_from
-  answer_rooms =
-      rooms (word_text word) (32 ∷ []) (decimal a) (more_text m) (41 ∷ [])
-      (holds_room (40 ∷ []) _ (puts_holds o [] h) (omega (arith, answer_short word a m)))
+-- ---- the lines, put together in an empty one
 
-  pub answer_more : {b d e : Line} → Puts begun (word_text word) b → Puts b (32 ∷ []) d → Puts d (decimal a) e
-      → Room e (more_text m)
-  answer_more p q s = answer_rooms.fourth p q s
+module _ {none : Line} (h : Holds none []) where
+  -- a word and two numbers have room if their whole has
+  room_two : (w l : List ℕ) (x y : ℕ) → w ++ two_numbers x y ≡ l → length l < 512 → Room none (w ++ two_numbers x y)
+  room_two w l x y e n = room_same (sym e) (holds_room [] l h (omega arith))
 
-  module _ {b d e f : Line} (p : Puts begun (word_text word) b) (q : Puts b (32 ∷ []) d) (s : Puts d (decimal a) e)
-      (t : Puts e (more_text m) f) where
-    pub answer_close : Room f (41 ∷ [])
-    answer_close = answer_rooms.fifth p q s t
+  pub laid_room : (n K : ℕ) → Room none (text "(laid " ++ two_numbers n K)
+  laid_room n K = room_two (text "(laid ") (laid_text n K) n K (laid_is n K) (laid_short n K)
 
-    pub answer_holds : {r : Line} → Puts f (41 ∷ []) r → Holds r (answer_text (word_text word) a (more_text m))
-    unfolding answer_text text text_from
-    answer_holds u = puts_holds (puts_then (puts_then (puts_then (puts_then p q) s) t) u) (40 ∷ []) (puts_holds o [] h)
+  pub ran_room : (s t : ℕ) → Room none (text "(ran " ++ two_numbers s t)
+  ran_room s t = room_two (text "(ran ") (ran_text (ran s t)) s t (ran_is s t) (ran_short s t)
 
--- what stands before the second has room with any
-module _ {none begun : Line} (h : Holds none []) (o : Puts none (40 ∷ []) begun) (word : ℕ) where
-  pub answer_word : Room begun (word_text word)
-  answer_word = (answer_rooms h o word 0 more.Nothing).first
+  pub played_room : (r d : ℕ) → Room none (text "(played " ++ two_numbers r d)
+  played_room r d = room_two (text "(played ") (played_text (played r d)) r d (played_is r d) (played_short r d)
 
-  module _ {b : Line} (p : Puts begun (word_text word) b) where
-    pub answer_space : Room b (32 ∷ [])
-    answer_space = (answer_rooms h o word 0 more.Nothing).second p
+  module _ (w : List ℕ) (fits : length w ≤ 64) where
+    numbered_rooms : (k : ℕ) → Rooms none w (decimal k) (text ")") [] []
+    unfolding numbered_text
+    numbered_rooms k =
+        rooms_three w (decimal k) (text ")")
+        (holds_room [] (numbered_text w k) h (omega (arith, numbered_short w k fits)))
 
-    pub answer_number : {d : Line} (a : ℕ) → Puts b (32 ∷ []) d → Room d (decimal a)
-    answer_number a q = (answer_rooms h o word a more.Nothing).third p q
+    pub numbered_word : Room none w
+    numbered_word = (numbered_rooms 0).first
 
--- ---- the lines of the forms
+    module _ {a : Line} (k : ℕ) (p : Puts none w a) where
+      pub numbered_number : Room a (decimal k)
+      numbered_number = (numbered_rooms k).second p
 
-pub refused_is : (k : ℕ) → answer_text (word_text index.refused) k (more_text more.Nothing) ≡ refused_text k
-unfolding answer_text more_text refused_text word_text words text text_from
-refused_is k = simp append_assoc
+      pub numbered_close : {b : Line} → Puts a (decimal k) b → Room b (text ")")
+      numbered_close q = (numbered_rooms k).third p q
 
-pub together_is : (m : ℕ) → answer_text (word_text index.proposed) m (more_text more.Nothing) ≡ together_text m
-unfolding answer_text more_text together_text word_text words text text_from
-together_is m = simp append_assoc
+  module _ {a : Line} (i : ℕ) (v : Figure) (p : Puts none (text "(proposed ") a) where
+    proposed_rooms : Rooms none (text "(proposed ") (decimal i) (text " ") (signed v) (text ")")
+    unfolding proposed_text
+    proposed_rooms =
+        rooms (text "(proposed ") (decimal i) (text " ") (signed v) (text ")")
+        (holds_room [] (proposed_text i v) h (omega (arith, proposed_short i v)))
 
-pub laid_is : (n K : ℕ) → answer_text (word_text index.laid) n (more_text (more.Number K)) ≡ laid_text n K
-unfolding answer_text more_text laid_text word_text words text text_from
-laid_is n K = simp append_assoc
+    module _ {b : Line} (q : Puts a (decimal i) b) where
+      module _ {d : Line} (s : Puts b (text " ") d) where
+        pub proposed_figure : Room d (signed v)
+        proposed_figure = proposed_rooms.fourth p q s
 
-pub ran_is : (s t : ℕ) → answer_text (word_text index.ran) s (more_text (more.Number t)) ≡ ran_text (ran s t)
-unfolding answer_text more_text ran_text word_text words text text_from
-ran_is s t = simp append_assoc
+        pub proposed_close : {e : Line} → Puts d (signed v) e → Room e (text ")")
+        proposed_close t = proposed_rooms.fifth p q s t
 
-pub played_is : (r d : ℕ) → answer_text (word_text index.played) r (more_text (more.Number d)) ≡ played_text (played r d)
-unfolding answer_text more_text played_text word_text words text text_from
-played_is r d = simp append_assoc
+  -- what stands before the figure has room with any
+  module _ {a : Line} (i : ℕ) (p : Puts none (text "(proposed ") a) where
+    pub proposed_number : Room a (decimal i)
+    proposed_number = (proposed_rooms i (pos 0) p).second p
 
--- z is the figure that the code passed on
-pub proposed_is : (i : ℕ) (v z : Figure) → z ≡ v
-    → answer_text (word_text index.proposed) i (more_text (more.Figure z)) ≡ proposed_text i v
-unfolding answer_text more_text proposed_text word_text words text text_from
-proposed_is i v z l =
-    ap (λ (x : Figure). answer_text (word_text index.proposed) i (more_text (more.Figure x))) l ∙ simp append_assoc
+    pub proposed_space : {b : Line} → Puts a (decimal i) b → Room b (text " ")
+    proposed_space q = (proposed_rooms i (pos 0) p).third p q
 
-pub holds_as : {r : Line} {s t : List ℕ} → s ≡ t → Holds r s → Holds r t
-holds_as {r} e h = subst (Holds r) e h
+  module _ {a r : Line} where
+    pub holds_numbered : {d : Line} (w : List ℕ) (k : ℕ) → Puts none w a → Puts a (decimal k) d → Puts d (text ")") r
+        → Holds r (numbered_text w k)
+    unfolding numbered_text
+    holds_numbered w k p q s = puts_holds (puts_then (puts_then p q) s) [] h
+
+    pub holds_laid : (n K : ℕ) → Puts none (text "(laid ") a → Puts a (two_numbers n K) r → Holds r (laid_text n K)
+    holds_laid n K p q = subst (Holds r) (laid_is n K) (puts_holds (puts_then p q) [] h)
+
+    pub holds_ran : (s t : ℕ) → Puts none (text "(ran ") a → Puts a (two_numbers s t) r → Holds r (ran_text (ran s t))
+    holds_ran s t p q = subst (Holds r) (ran_is s t) (puts_holds (puts_then p q) [] h)
+
+    pub holds_played : (n d : ℕ) → Puts none (text "(played ") a → Puts a (two_numbers n d) r
+        → Holds r (played_text (played n d))
+    holds_played n d p q = subst (Holds r) (played_is n d) (puts_holds (puts_then p q) [] h)
+
+    -- z is the figure that the code passed on
+    pub holds_proposed : {b d e : Line} (i : ℕ) (v z : Figure) → Puts none (text "(proposed ") a → Puts a (decimal i) b
+        → Puts b (text " ") d → Puts d (signed z) e → Puts e (text ")") r → z ≡ v → Holds r (proposed_text i v)
+    unfolding proposed_text
+    holds_proposed i v z p q s t u l =
+        subst (λ (x : Figure). Holds r (proposed_text i x)) l
+        (puts_holds (puts_then (puts_then (puts_then (puts_then p q) s) t) u) [] h)

@@ -1,35 +1,25 @@
 -- How long the lines of a run sheet can be: each leaves room for its LF.
 -- Relies on Decimals; the proofs of the lines and the player rely on it.
-use Rattle.model.proofs.Kit.{ℕ, ◌≤◌, ◌<◌, length, length-append, arith}
+use Rattle.model.proofs.Kit.{List, ℕ, ◌≤◌, ◌<◌, length, length-append, arith}
 use Rattle.model.specs.Figure.{Figure}
 use Rattle.model.specs.Show.{text, text_from}
 use Rattle.model.specs.Calls.{ran}
 use Rattle.model.specs.Rounds.{played}
 use Rattle.model.specs.Sheet.{refused_text, laid_text, proposed_text, together_text, ran_text, played_text}
+use Rattle.answer_writer.specs.Texts.{numbered_text}
 use Rattle.line_writer.proofs.Decimals.{length_any, length_signed}
-use Rattle.words.specs.Store.{word_text}
-use Rattle.words.proofs.Laws.Writing.{word_short}
-use Rattle.answer_writer.specs.declared.More.{More}
-use Rattle.answer_writer.specs.declared.More.TheVariants as more
-use Rattle.answer_writer.specs.Texts.{more_text, answer_text}
 
-more_short : (m : More) → length (more_text m) ≤ 12
-unfolding more_text text text_from
-more_short more.Nothing = omega arith
-more_short (more.Number x) = omega (arith, length_any x)
-more_short (more.Figure v) = omega (arith, length_signed v)
-
-pub answer_short : (word a : ℕ) (m : More) → length (answer_text (word_text word) a (more_text m)) < 512
-unfolding answer_text text text_from
-answer_short word a m = simp length-append (omega (arith, word_short word, length_any a, more_short m))
+pub numbered_short : (w : List ℕ) (k : ℕ) → length w ≤ 64 → length (numbered_text w k) < 512
+unfolding numbered_text text text_from
+numbered_short w k h = simp length-append (omega (arith, length_any k))
 
 pub refused_short : (k : ℕ) → length (refused_text k) < 512
-unfolding refused_text text text_from
-refused_short k = simp length-append (omega (arith, length_any k))
+unfolding refused_text numbered_text text text_from
+refused_short k = numbered_short (text "(refused ") k (omega arith)
 
 pub together_short : (m : ℕ) → length (together_text m) < 512
-unfolding together_text text text_from
-together_short m = simp length-append (omega (arith, length_any m))
+unfolding together_text numbered_text text text_from
+together_short m = numbered_short (text "(proposed ") m (omega arith)
 
 pub laid_short : (n K : ℕ) → length (laid_text n K) < 512
 unfolding laid_text text text_from

@@ -1,16 +1,12 @@
--- The text of a run sheet's answer by its parts: a word, a number, and what comes behind it.
+-- Parts of a run sheet's answers: the one or two numbers that end them.
 -- Relies on the model's texts and numbers; the contracts of the answers rely on it.
-use Rattle.std.specs.Prelude.{List, [], ◌++◌, ℕ}
-use Rattle.model.specs.Show.{text, decimal, signed}
-use Rattle.answer_writer.specs.declared.More.{More}
-use Rattle.answer_writer.specs.declared.More.TheVariants.{Nothing, Number, Figure}
+use Rattle.std.specs.Prelude.{List, ◌++◌, ℕ}
+use Rattle.model.specs.Show.{text, decimal}
 
--- a number or a figure behind a space, if any
-unfoldable pub more_text : More → List ℕ
-more_text Nothing = []
-more_text (Number x) = text " " ++ decimal x
-more_text (Figure v) = text " " ++ signed v
+-- "a b)"
+unfoldable pub two_numbers : (a b : ℕ) → List ℕ
+two_numbers a b = decimal a ++ text " " ++ decimal b ++ text ")"
 
--- "(word a)" with more behind the number
-unfoldable pub answer_text : (word : List ℕ) (a : ℕ) (more : List ℕ) → List ℕ
-answer_text w a more = text "(" ++ (w ++ text " " ++ decimal a ++ more ++ text ")")
+-- a word and "a)"
+unfoldable pub numbered_text : (word : List ℕ) (a : ℕ) → List ℕ
+numbered_text w a = w ++ decimal a ++ text ")"

@@ -1,6 +1,8 @@
 // The public calls over a lent board: refusals in checking order, then the work. They are those that are named here.
 // Relies on the test of a board, the codec, the proposals, the step, the rounds, and how a station stands, as a value or in a
 // line; the C interface and the player of run sheets rely on it.
+#![tactic(auto)]
+
 mod laying;
 mod showing;
 mod telling;

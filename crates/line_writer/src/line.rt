@@ -4,7 +4,7 @@ ghost use Rattle.std.specs.Prelude.{[], ◌∷◌};
 ghost use Rattle.line_writer.specs.Puts.{Holds, Puts, Room, line_of};
 
 // The bytes after the first `len` are zero.
-#[derive(Drop)]
+#[derive(Clone, Copy)]
 pub struct Line {
     pub bytes: [u8; 512],
     pub len: usize,
@@ -50,5 +50,14 @@ pub fn put_byte(line: Line, byte: u8) -> Line
 {
     let mut bytes = line.bytes;
     let len = write_byte(&mut bytes, line.len, byte);
+    Line { bytes, len }
+}
+
+pub fn put_word(line: Line, word: &[u8]) -> Line
+    requires { Room line word.now }
+    ensures { Puts line word.now result }
+{
+    let mut bytes = line.bytes;
+    let len = write_word(&mut bytes, line.len, word);
     Line { bytes, len }
 }

@@ -7,7 +7,7 @@ ghost use Rattle.line_writer.specs.Puts.{Puts, Room, line_of};
 use crate::line::{write_byte, write_word};
 
 // The digits of a number: they stand at the end of the bytes, the first of them at `from`.
-#[derive(Drop)]
+#[derive(Clone, Copy)]
 struct Digits {
     bytes: [u8; 10],
     from: usize,

@@ -15,7 +15,7 @@ use Rattle.model.specs.Listing.{Answer, wrote, read, went, marked, adopted, deci
 use Rattle.model.specs.Filled.{Report}
 use Rattle.model.specs.Calls.{Refusal, RunAnswer, ran, not_run}
 use Rattle.model.specs.Rounds.{RoundsAnswer, played, not_played}
-use Rattle.model.specs.Standing.{Standing, stands_idle, stands_going, stands_decided_lem, stands_spent}
+use Rattle.model.specs.Standing.{Standing, stands_idle, stands_going, stands_decided, stands_spent}
 use Rattle.model.specs.Standing.{StandingAnswer, stands, not_told}
 
 -- a figure's 32 bits of two's complement, as a number
@@ -77,7 +77,7 @@ packed_standing = packed_at 4096
 unfoldable pub standing_part : Standing → ℕ
 standing_part stands_idle = packed_standing 0 1 0 0
 standing_part (stands_going c v) = packed_standing 0 2 c (bits v)
-standing_part (stands_decided_lem c v) = packed_standing 0 3 c (bits v)
+standing_part (stands_decided c v) = packed_standing 0 3 c (bits v)
 standing_part (stands_spent c v) = packed_standing 0 4 c (bits v)
 
 -- a station's steps have room in their bits

@@ -1,5 +1,7 @@
 // Answers packed into one number.
 // Relies on a figure's bits; the calls for C rely on it.
+#![tactic(auto)]
+
 ghost use Rattle.std.specs.Prelude.{◌≡◌, cond, ◌+◌, ◌*◌, ◌≤◌};
 ghost use Rattle.model.specs.Told.{told, verdict, run_told, rounds_told, standing_told, standing_answered};
 ghost use Rattle.packing.specs.Packing.{bits, packed_at, packed, pack_verdict, pack_step, pack_run, pack_rounds, pack_standing};

@@ -11,14 +11,14 @@ ghost use Rattle.rounds.specs.Suspended.{Suspends};
 
 use crate::round::play_round;
 use crate::suspending::suspend;
-use bytes::scan::find;
 use halts::{climbed, larger, round_needs};
+use scan::find;
 
 // No station's number.
 const ROUND_END: u8 = 255;
 
 // How many rounds there are, and the stations that a board must have for them.
-#[derive(Drop)]
+#[derive(Clone, Copy)]
 pub struct Asked {
     pub rounds: usize,
     pub needs: u8,
@@ -58,7 +58,7 @@ pub fn needs_of(named: &[u8], most: u8) -> Asked
     let mut needs: u8 = 0;
     let mut at = 0;
     while at < named.len() {
-        let end = find(named, at, named.len(), ROUND_END);
+        let end = find(named, at, ROUND_END);
         let last = climb_of(&named[at..end]);
         needs = larger(needs, round_needs(last, end - at, most));
         rounds += 1;
@@ -74,7 +74,7 @@ pub fn play_rounds(board: &mut [u8], named: &[u8])
 {
     let mut at = 0;
     while at < named.len() {
-        let end = find(named, at, named.len(), ROUND_END);
+        let end = find(named, at, ROUND_END);
         let halted = halted_of(&named[at..end]);
         play_round(board, halted);
         at = end + 1;

@@ -5,7 +5,7 @@ use Rattle.model.specs.declared.Record.{Record}
 use Rattle.model.specs.declared.Standing.TheVariants.{Idle, Going, Decided, Spent}
 use Rattle.model.specs.Figure.{Figure}
 use Rattle.model.specs.Layout.{record_value}
-use Rattle.model.specs.Standing.{stands_going, stands_decided_lem, stands_spent, standing_of}
+use Rattle.model.specs.Standing.{stands_going, stands_decided, stands_spent, standing_of}
 use Rattle.model.specs.Told.{standing_told}
 use Rattle.model.proofs.Board.Phases.{idle_stands, going_stands, decided_stands, spent_stands}
 
@@ -23,7 +23,7 @@ module _ (f : Record) where
   pub decided_told : (z : Figure) → z ≡ f.carried → f.phase ≡ 7
       → standing_told (Decided f.island z) ≡ standing_of (record_value f)
   unfolding standing_told
-  decided_told z l e = ap (stands_decided_lem f.island) l ∙ sym (decided_stands f e)
+  decided_told z l e = ap (stands_decided f.island) l ∙ sym (decided_stands f e)
 
   pub spent_told : (z : Figure) → z ≡ f.carried → 7 ≤ f.phase → (f.phase ≡ 7 → ⊥)
       → standing_told (Spent f.island z) ≡ standing_of (record_value f)

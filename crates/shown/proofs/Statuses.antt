@@ -1,6 +1,6 @@
 -- A station's status piece by piece: its bytes by how it stands, the order in which the code puts them, and their
 -- number. Relies on Putting and the model's `status`; the proofs of src/status.rt rely on it.
-use Rattle.model.proofs.Kit.{◌≡◌, sym, ap, subst, ◌∙◌, List, [], ◌∷◌, ◌++◌, ℕ, ◌+◌, length, length-append, arith}
+use Rattle.model.proofs.Kit.{◌≡◌, sym, ap, subst, ◌∙◌, List, [], ◌∷◌, ◌++◌, ℕ, ◌+◌, length, length-append}
 use Rattle.model.specs.declared.Record.{Record}
 use Rattle.model.specs.declared.Standing.{Standing}
 use Rattle.model.specs.declared.Standing.TheVariants.{Idle, Going, Decided, Spent}
@@ -11,24 +11,10 @@ use Rattle.model.specs.Standing.{standing_of}
 use Rattle.model.specs.Told.{standing_told}
 use Rattle.model.specs.Show.{text, text_from, decimal, signed, worded, standing_text, status}
 use Rattle.line_writer.specs.declared.line.Line.{Line}
-use Rattle.line_writer.specs.Puts.{Holds, Puts, Room}
-use Rattle.words.specs.Store.{words, word_text}
-use Rattle.words.specs.Index as index
-use Rattle.words.proofs.Laws.Writing.{word_short}
+use Rattle.line_writer.specs.Puts.{Puts, Room}
 use Rattle.shown.specs.Texts.{status_of, standing_bytes}
-use Rattle.line_writer.proofs.Putting.{puts_then, puts_holds}
-use Rattle.line_writer.proofs.Rooms.{Rooms, rooms, holds_room}
-
--- ---- the opening of the line; 40 is "("
-
-module _ {none begun : Line} (h : Holds none []) (p : Puts none (40 ∷ []) begun) where
-  pub opened_room : Room begun (word_text index.stations)
-  opened_room =
-      holds_room (40 ∷ []) (word_text index.stations) (puts_holds p [] h) (omega (arith, word_short index.stations))
-
-  pub opened_holds : {r : Line} → Puts begun (word_text index.stations) r → Holds r (text "(stations")
-  unfolding word_text words text text_from
-  opened_holds q = puts_holds (puts_then p q) [] h
+use Rattle.line_writer.proofs.Putting.{puts_then}
+use Rattle.line_writer.proofs.Rooms.{Rooms, rooms}
 
 -- ---- the order of the pieces
 
@@ -113,26 +99,24 @@ module _ (f : Record) (s : Standing) (told : standing_told s ≡ standing_of (re
   unfolding status
   as_told t e = ap standing_text (sym told ∙ ap standing_told e)
 
-  pub idle_text : s ≡ Idle → status (record_value f) ≡ word_text index.idle
-  unfolding standing_told standing_text word_text words
+  pub idle_text : s ≡ Idle → status (record_value f) ≡ text "idle"
+  unfolding standing_told standing_text
   idle_text e = as_told Idle e
 
-  pub idle_puts : {line r : Line} → s ≡ Idle → Puts line (word_text index.idle) r → Puts line (status (record_value f)) r
+  pub idle_puts : {line r : Line} → s ≡ Idle → Puts line (text "idle") r → Puts line (status (record_value f)) r
   idle_puts {line} {r} e p = subst (λ (b : List ℕ). Puts line b r) (sym (idle_text e)) p
 
-  pub going_text : (c : ℕ) (v : Figure) → s ≡ Going c v
-      → status (record_value f) ≡ standing_bytes (word_text index.going) c v
-  unfolding standing_told standing_text worded standing_bytes word_text words
+  pub going_text : (c : ℕ) (v : Figure) → s ≡ Going c v → status (record_value f) ≡ standing_bytes (text "going") c v
+  unfolding standing_told standing_text worded standing_bytes
   going_text c v e = as_told (Going c v) e
 
   pub decided_text : (c : ℕ) (v : Figure) → s ≡ Decided c v
-      → status (record_value f) ≡ standing_bytes (word_text index.decided) c v
-  unfolding standing_told standing_text worded standing_bytes word_text words
+      → status (record_value f) ≡ standing_bytes (text "decided") c v
+  unfolding standing_told standing_text worded standing_bytes
   decided_text c v e = as_told (Decided c v) e
 
-  pub spent_text : (c : ℕ) (v : Figure) → s ≡ Spent c v
-      → status (record_value f) ≡ standing_bytes (word_text index.spent) c v
-  unfolding standing_told standing_text worded standing_bytes word_text words
+  pub spent_text : (c : ℕ) (v : Figure) → s ≡ Spent c v → status (record_value f) ≡ standing_bytes (text "spent") c v
+  unfolding standing_told standing_text worded standing_bytes
   spent_text c v e = as_told (Spent c v) e
 
 -- a status that is put as a word with the island and the figure z, which the code passed on

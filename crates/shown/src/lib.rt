@@ -1,5 +1,7 @@
 // How a station stands, and its status in the line that `show` hands back.
-// Relies on the model's declared types and texts, on the writer of lines and on the word store; the calls that tell how
-// stations stand and the writer of a tape line rely on it.
+// Relies on the model's declared types and texts and on the writer of lines; the calls that tell how stations stand and the
+// writer of a tape line rely on it.
+#![tactic(auto)]
+
 pub mod standing;
 pub mod status;

@@ -3,6 +3,8 @@
 // (`repeated`, `sound_step`), and a step taped asks first whether a station goes on (`going`): these have a `requires`.
 // Relies on the test of a board, the codec and the stepper of a lent record; the public calls, the run of items, the round
 // and a step taped rely on it.
+#![tactic(auto)]
+
 pub mod going;
 pub mod repeated;
 pub mod running;

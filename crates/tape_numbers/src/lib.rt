@@ -1,5 +1,7 @@
 // The answer of a comparison as numbers: one by value, and two put into a lent list.
 // Relies on the declared types; the calls for C rely on it.
+#![tactic(auto)]
+
 ghost use Rattle.std.specs.Prelude.{◌≡◌};
 ghost use Rattle.model.specs.Told.{tap_told, comparison_told, start_told, length_told};
 ghost use Rattle.tape_numbers.specs.Numbers.{tap_number, refusal_number, culprit_number, two_in, found_in, two_fit};

@@ -1,7 +1,8 @@
 // The word store: every word of a run sheet's forms and answers, of a tape line and of what is said of two tapes. Each stands
 // once, end to end with the others, beside the lengths of all; a word is named by its index.
-// Relies on the writer of lines and on the test of two parts for equality; whatever reads or writes a word relies on it, and
-// has its words from nowhere else.
+// Relies on the writer of lines and on the test of two parts for equality; nothing rests on it yet.
+#![tactic(auto)]
+
 ghost use Rattle.std.specs.Prelude.{◌≡◌};
 ghost use Rattle.line_writer.specs.Puts.{Puts, Room, line_of};
 ghost use Rattle.words.specs.Store.{Packed, words, word_text, index_in};
@@ -12,7 +13,7 @@ use line_writer::line::write_word;
 pub mod index;
 
 // The words' lengths in bytes, and their letters.
-#[derive(Drop)]
+#[derive(Clone, Copy)]
 struct Store {
     lengths: [u8; 22],
     letters: [u8; 119],

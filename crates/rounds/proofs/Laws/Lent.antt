@@ -5,8 +5,8 @@ use Rattle.model.proofs.Kit.{◌+◌, ◌-◌, ◌≤◌, ◌<◌, length, take,
 use Rattle.model.proofs.Kit.{add-one, arith}
 use Prim.Native.Nat.{max}
 use lib.ListN.{length-take}
-use lib.Seq.{take-suc, take-length}
-use Rattle.bytes.specs.Bytes.{slice, index_of, index_after}
+use lib.Seq.{take-suc}
+use Rattle.scan.specs.Scan.{index_of}
 use Rattle.model.specs.Calls.{board_refusal}
 use Rattle.model.specs.Rounds.{round_end, lent_rounds}
 use Rattle.model.proofs.Basics.Ended.{no_parts, parts_found}
@@ -46,19 +46,15 @@ module _ (named : List ℕ) where
   all_done at done u l =
       sym (append-nil done) ∙ ap (λ (x : List (List ℕ)). done ++ x) (sym (no_parts 255 named at l)) ∙ u.rest
 
-  module _ (at end : ℕ) (l : at < length named) (e : end ≡ at + index_of 255 (slice at (length named) named)) where
-    found : end ≡ at + index_of 255 (drop at named)
-    unfolding slice
-    found = e ∙ ap (λ (t : List ℕ). at + index_of 255 (drop at t)) (take-length named)
-
+  module _ (at end : ℕ) (l : at < length named) (e : end ≡ at + index_of 255 (drop at named)) where
     next : (done : List (List ℕ)) → Upto named at done
         → Upto named (end + 1) (done ++ (take (end - at) (drop at named) ∷ []))
-    unfolding lent_rounds round_end index_of index_after
+    unfolding lent_rounds round_end index_of
     next done u = record {
       rest =
           append_assoc done (take (end - at) (drop at named) ∷ []) (lent_rounds (drop (end + 1) named))
           ∙ ap (λ (x : List (List ℕ)). done ++ x)
-          (sym (parts_found 255 (index_of 255) refl (λ b s t. rw t) (λ b s t. rw t) named at end found l))
+          (sym (parts_found 255 (index_of 255) refl (λ b s t. rw t) (λ b s t. rw t) named at end e l))
           ∙ u.rest;
     }
 
@@ -77,7 +73,7 @@ module _ (most : ℕ) (named : List ℕ) where
       record { done = []; upto = record { rest = refl }; count = refl; few = omega arith; asks = refl }
 
   pub asked_more : (at rounds asked end last own more : ℕ) → AskedTo most named at rounds asked → at < length named
-      → end ≡ at + index_of 255 (slice at (length named) named)
+      → end ≡ at + index_of 255 (drop at named)
       → end ≤ length named
       → last ≡ climbs 0 (take (end - at) (drop at named))
       → own ≡ closed last (end - at) most
@@ -88,7 +84,7 @@ module _ (most : ℕ) (named : List ℕ) where
     done = a.done ++ (round ∷ []);
     upto = next named at end l e a.done a.upto;
     count = simp length-append (omega (arith, a.count));
-    few = omega (arith, a.few, found named at end l e);
+    few = omega (arith, a.few, e);
     asks =
         m ∙ (λ i. max (a.asks i) ((o ∙ (λ j. closed (c j) (width j) most)) i))
         ∙ sym (needs_grown most a.done round);
@@ -117,7 +113,7 @@ module _ (b named : List ℕ) where
   played_begun s = record { done = []; upto = record { rest = refl }; plays = no_rounds b s }
 
   pub played_more : (at end : ℕ) (d e : List ℕ) (halted : List Bool) → PlayedTo b named at d → at < length named
-      → end ≡ at + index_of 255 (slice at (length named) named)
+      → end ≡ at + index_of 255 (drop at named)
       → Suspends halted (take (end - at) (drop at named))
       → e ≡ after_round halted d
       → PlayedTo b named (end + 1) e

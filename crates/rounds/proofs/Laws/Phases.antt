@@ -8,7 +8,7 @@ use Rattle.model.specs.Listing.{Station}
 use Rattle.model.specs.Layout.{record_at, record_of, fields_of, read_record, of_phase, writing_of, reading_of, record_value}
 use Rattle.model.specs.Layout.{station_of}
 use Rattle.model.specs.Calls.{stations, islands, board_refusal}
-use Rattle.model.specs.Rounds.{settled, stands_decided, all_settled, decided_on}
+use Rattle.model.specs.Rounds.{settled, is_decided, all_settled, decided_on}
 use Rattle.model.proofs.Basics.Loops.{every_more, every_end, every_fails, count_more, count_most}
 use Rattle.model.proofs.Basics.Loops.{count_end}
 use Rattle.model.proofs.Basics.Splices.{byte_part}
@@ -33,8 +33,8 @@ module _ (h : ℕ) where
   in_b e f = ap (λ (p : ℕ). settled (of_phase p f)) e
 
   pub in_seven : h ≡ 7 → Decides h 1
-  unfolding Decides stands_decided of_phase
-  in_seven e f = ap (λ (p : ℕ). cond (stands_decided (of_phase p f)) 1 0) (sym e)
+  unfolding Decides is_decided of_phase
+  in_seven e f = ap (λ (p : ℕ). cond (is_decided (of_phase p f)) 1 0) (sym e)
 
 pub in_none : (h : ℕ) → (h ≡ 2 → ⊥) → (h ≡ 4 → ⊥) → (h ≡ 6 → ⊥) → Settles h true
 unfolding Settles settled of_phase writing_of reading_of
@@ -49,7 +49,7 @@ in_none (suc (suc (suc (suc (suc (suc (suc zero))))))) m a b f = refl
 in_none (suc (suc (suc (suc (suc (suc (suc (suc h)))))))) m a b f = refl
 
 pub not_seven : (h : ℕ) → (h ≡ 7 → ⊥) → Decides h 0
-unfolding Decides stands_decided of_phase writing_of reading_of
+unfolding Decides is_decided of_phase writing_of reading_of
 not_seven zero d f = refl
 not_seven (suc zero) d f = refl
 not_seven (suc (suc zero)) d f = refl
@@ -66,7 +66,7 @@ abbrev pub settled_at : List ℕ → ℕ → Bool
 settled_at b j = settled (station_of (stations b) (islands b) j b)
 
 abbrev pub decided_at : List ℕ → ℕ → Bool
-decided_at b j = stands_decided (station_of (stations b) (islands b) j b)
+decided_at b j = is_decided (station_of (stations b) (islands b) j b)
 
 module _ (b : List ℕ) (j at : ℕ) (e : at ≡ record_at (get_or b 0 0) (get_or b 1 0) j) where
   pub phase_inside : board_refusal b none ≡ none → j < get_or b 0 0 → at < length b
@@ -89,7 +89,7 @@ module _ (b : List ℕ) (j at : ℕ) (e : at ≡ record_at (get_or b 0 0) (get_o
 
   decides : (r : ℕ) → Decides (get_or b at 0) r → r ≡ cond (decided_at b j) 1 0
   unfolding Decides
-  decides r h = h _ ∙ ap (λ (z : Station Figure). cond (stands_decided z) 1 0) (sym by_phase)
+  decides r h = h _ ∙ ap (λ (z : Station Figure). cond (is_decided z) 1 0) (sym by_phase)
 
   pub stops : (r : Bool) → Settles (get_or b at 0) r → not r ≡ true → j < get_or b 0 0 → false ≡ all_settled b
   unfolding all_settled stations
