@@ -4,8 +4,7 @@ use Rattle.model.proofs.Kit.{◌≡◌, refl, sym, ap, subst, ◌∙◌, Bool, t
 use Rattle.model.proofs.Kit.{append-nil, ℕ, zero, suc, ◌+◌, ◌-◌, ◌≤◌, ◌<◌, le-leb, lt-leb, lt-ltb, le-ltb, leb-true}
 use Rattle.model.proofs.Kit.{leb-false, eqb, leb, ltb, length, take, drop, replicate}
 use Rattle.model.proofs.Kit.{arith}
-use lib.Seq.{take-length}
-use Rattle.bytes.specs.Bytes.{slice, index_of, index_after}
+use Rattle.scan.specs.Scan.{index_of}
 use Rattle.model.specs.Layout.{board_length}
 use Rattle.model.specs.Sheet as model
 use Rattle.model.specs.Sheet.{refused_text, lines_of, printed, play_line, play_sheet}
@@ -34,12 +33,12 @@ lines_at s at h = rw (line_front (drop at s)) (parts_at 10 s at h)
 
 -- it ends where the first LF is found
 lf_found : (t : List ℕ) → length (line_in t) ≡ index_of 10 t
-unfolding index_of index_after
+unfolding index_of
 lf_found t = ap length (line_front t) ∙ (mark_found 10 (index_of 10) refl (λ b s e. rw e) (λ b s e. rw e) t).0
 
 line_taken_lem : (s : List ℕ) (at end : ℕ) → end ≡ at + index_of 10 (drop at s)
     → take (end - at) (drop at s) ≡ line_in (drop at s)
-unfolding index_of index_after
+unfolding index_of
 line_taken_lem s at end e =
     sym (line_front (drop at s) ∙ part_taken 10 (index_of 10) refl (λ b s e. rw e) (λ b s e. rw e) s at end e)
 
@@ -97,25 +96,22 @@ module _ (s : List ℕ) (at laid : ℕ) (m : List ℕ) where
 
   -- the line was played, and the sheet goes on behind its LF
   pub goes_on : (end : ℕ) (r : Played) (d : List ℕ) (next : Line) → length s ≤ 32768 → at < length s
-      → end ≡ at + index_of 10 (slice at (length s) s)
+      → end ≡ at + index_of 10 (drop at s)
       → Plays (play_line laid m (take (end - at) (drop at s))) r d → Puts r.line (10 ∷ []) next
       → Answers (answer_at s at laid m) (record { line = next; laid = r.laid; next = end + 1 }) d
-  unfolding slice line_answered
+  unfolding line_answered
   goes_on end r d next h l e p q =
       subst (λ (a : Answered). Answers a (record { line = next; laid = r.laid; next = end + 1 }) d)
       (sym (at_line s at laid m l h))
       (record {
         line = puts_holds q (play_line laid m (line_in (drop at s))).printed plays.line;
         laid = plays.laid;
-        next = omega (arith, place, lf_found (drop at s));
+        next = omega (arith, e, lf_found (drop at s));
         memory = plays.memory;
       })
     where
-      place : end ≡ at + index_of 10 (drop at s)
-      place = e ∙ ap (λ (t : List ℕ). at + index_of 10 (drop at t)) (take-length s)
-
       plays : Plays (play_line laid m (line_in (drop at s))) r d
-      plays = subst (λ (t : List ℕ). Plays (play_line laid m t) r d) (line_taken_lem s at end place) p
+      plays = subst (λ (t : List ℕ). Plays (play_line laid m t) r d) (line_taken_lem s at end e) p
 
 -- room for the LF
 pub refused_room : (line : Line) → Holds line (refused_text 1) → Room line (10 ∷ [])

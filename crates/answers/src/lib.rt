@@ -1,14 +1,16 @@
 // A sheet line by line: refusal 1, where each line ends, and what it prints with its LF.
 // Relies on the player of one line; the program relies on it.
+#![tactic(auto)]
+
 ghost use Rattle.answers.specs.Answered.{Answers, answer_at};
 
 use answer_writer::refused_line;
-use bytes::scan::find;
 use line_writer::line::{Line, empty, put_byte};
 use player::line::play_line;
+use scan::find;
 
 // What is printed next, the board in force afterwards, and the place of the sheet to go on from.
-#[derive(Drop)]
+#[derive(Clone, Copy)]
 pub struct SheetAnswer {
     pub line: Line,
     pub laid: usize,
@@ -33,7 +35,7 @@ pub fn next_answer(sheet: &[u8], at: usize, laid: usize, memory: &mut [u8]) -> S
             next: sheet.len(),
         };
     }
-    let end = find(sheet, at, sheet.len(), b'\n');
+    let end = find(sheet, at, b'\n');
     let played = play_line(&sheet[at..end], laid, memory);
     SheetAnswer {
         line: put_byte(played.line, b'\n'),

@@ -1,5 +1,7 @@
 // The brackets of a line: how deep they go, the one that ends a line, and the one that begins pairs.
 // Relies on the model's forms alone; the reader of a line relies on it, and the reader of a tape line on `closes`.
+#![tactic(auto)]
+
 ghost use Rattle.std.specs.Prelude.{◌≡◌, ◌≤◌, length, drop, eqb};
 ghost use Rattle.model.specs.Bytes.{byte};
 ghost use Rattle.model.specs.Forms.{too_deep, same};

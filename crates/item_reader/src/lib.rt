@@ -1,15 +1,17 @@
 // The items of `steps`: the reader of an item and the reader of a list of items call each other, and count the steps.
 // Relies on the lexer's numbers and words, and its laws on what is read of a list; the reader of a line relies on it, and the
 // walks along items on its laws. It knows no board.
+#![tactic(auto)]
+
 ghost use Rattle.std.specs.Prelude.{◌≡◌};
 ghost use Rattle.item_reader.specs.Counts.{capped, TimesIs, ItemIs, ItemsAre};
 
 use lexer::number::{FoundNumber, number};
-use lexer::word::{FoundWord, times_at};
+use lexer::word::{FoundWord, word_at};
 
 // How many steps the items stand for, 65,537 for any number above 65,536, and the place after them; or the number of the
 // refusal.
-#[derive(Drop)]
+#[derive(Clone, Copy)]
 pub enum Counted {
     Steps { count: u32, next: usize },
     Refused { number: u8 },
@@ -29,7 +31,7 @@ fn cap(count: u64) -> u32
 fn times(line: &[u8], at: usize) -> FoundNumber
     ensures { TimesIs line.now at result }
 {
-    let FoundWord::At { next: digits } = times_at(line, at) else {
+    let FoundWord::At { next: digits } = word_at(line, at, b"(times ") else {
         return FoundNumber::Refused { number: 4 };
     };
     let FoundNumber::At { value, next } = number(line, digits, 1, 99999) else {

@@ -3,13 +3,13 @@
 ghost use Rattle.lexer.specs.Known.{NumberStands, KnownIs, FigureStands, KnownFigureIs};
 
 // The number and the place after it.
-#[derive(Drop)]
+#[derive(Clone, Copy)]
 pub struct KnownNumber {
     pub value: u32,
     pub next: usize,
 }
 
-#[derive(Drop)]
+#[derive(Clone, Copy)]
 pub struct KnownFigure {
     pub value: i32,
     pub next: usize,

@@ -4,13 +4,13 @@ ghost use Rattle.std.specs.Prelude.{◌≤◌, length};
 ghost use Rattle.lexer.specs.Placed.{DigitsIs, NumberIs, SpacedIs, FigureIs};
 
 // The number read and the place after it, or the number of the refusal.
-#[derive(Drop)]
+#[derive(Clone, Copy)]
 pub enum FoundNumber {
     At { value: u32, next: usize },
     Refused { number: u8 },
 }
 
-#[derive(Drop)]
+#[derive(Clone, Copy)]
 pub enum FoundFigure {
     At { value: i32, next: usize },
     Refused { number: u8 },

@@ -1,14 +1,12 @@
-// The word that names a form, as the part of the line that it occupies, and which form it names; and the word of an item.
-// Relies on the word store; the readers of a line, of items and of a tape line and the C interface rely on it.
+// The word that names a form, as the part of the line that it occupies, and which form it names; and a given word at a place.
+// Relies on the test of two parts for equality; the readers of a line, of items and of a tape line and the C interface rely on it.
 ghost use Rattle.std.specs.Prelude.{◌≡◌, ◌<◌, length};
 ghost use Rattle.model.specs.Forms.{word_rows, row_in, first_word, form_word};
-ghost use Rattle.model.specs.Show.{text};
 ghost use Rattle.lexer.specs.Words.{WordEnd, PartIs, named_row, WordIs};
 
-use words::index::{BOARD, PROPOSE, ROUNDS, SHOW, STEPS, TIMES};
-use words::index_of;
+use check::same;
 
-#[derive(Drop)]
+#[derive(Clone, Copy)]
 pub enum FormWord {
     Board,
     Propose,
@@ -17,14 +15,14 @@ pub enum FormWord {
     Rounds,
 }
 
-#[derive(Drop)]
+#[derive(Clone, Copy)]
 pub enum Named {
     Form { word: FormWord },
     Nothing,
 }
 
 // The place after a word, or the number of the refusal.
-#[derive(Drop)]
+#[derive(Clone, Copy)]
 pub enum FoundWord {
     At { next: usize },
     Refused { number: u8 },
@@ -69,28 +67,27 @@ pub fn first_word(line: &[u8]) -> &[u8]
 pub fn form_named(word: &[u8]) -> Named
     ensures { named_row result ≡ row_in word_rows word.now }
 {
-    let index = index_of(word);
-    if index == BOARD {
+    if same(word, b"board") {
         return Named::Form {
             word: FormWord::Board,
         };
     }
-    if index == PROPOSE {
+    if same(word, b"propose") {
         return Named::Form {
             word: FormWord::Propose,
         };
     }
-    if index == STEPS {
+    if same(word, b"steps") {
         return Named::Form {
             word: FormWord::Steps,
         };
     }
-    if index == SHOW {
+    if same(word, b"show") {
         return Named::Form {
             word: FormWord::Show,
         };
     }
-    if index == ROUNDS {
+    if same(word, b"rounds") {
         return Named::Form {
             word: FormWord::Rounds,
         };
@@ -109,26 +106,20 @@ pub fn form_word(line: &[u8]) -> &[u8]
     word
 }
 
-// How many bytes `(times ` has.
-pub const TIMES_OPENING: usize = 7;
-
-// `(times ` at `at`: an opening bracket, the word and a space, and the place behind them.
-pub fn times_at(line: &[u8], at: usize) -> FoundWord
-    ensures { WordIs line.now at (text "(times ") result }
+// The bytes of `word` at `at`; no word is empty.
+pub fn word_at(line: &[u8], at: usize, word: &[u8]) -> FoundWord
+    requires { 0 < length word.now }
+    ensures { WordIs line.now at word.now result }
 {
     if line.len() < at {
         return FoundWord::Refused { number: 4 };
     }
-    let word = first_word(&line[at..]);
-    if index_of(word) != TIMES {
+    if line.len() - at < word.len() {
         return FoundWord::Refused { number: 4 };
     }
-    let space = at + 1 + word.len();
-    if line.len() <= space {
-        return FoundWord::Refused { number: 4 };
+    let next = at + word.len();
+    if same(&line[at..next], word) {
+        return FoundWord::At { next };
     }
-    if line[space] != b' ' {
-        return FoundWord::Refused { number: 4 };
-    }
-    FoundWord::At { next: space + 1 }
+    FoundWord::Refused { number: 4 }
 }

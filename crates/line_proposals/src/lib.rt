@@ -1,6 +1,8 @@
 // The pairs of a `propose` line, tried and put in as they stand in the line, so that no buffer holds them.
 // Relies on one pair tried and one put in, and on the readers of a known number and figure: the line was read before, so that
 // nothing here can miss. The player of a line relies on it.
+#![tactic(auto)]
+
 ghost use Rattle.std.specs.Prelude.{◌≡◌};
 ghost use Rattle.std.proofs.Math.Option.{none};
 ghost use Rattle.model.specs.Calls.{board_refusal};
@@ -14,7 +16,7 @@ use proposing::trying::try_pair;
 use soundness::board::check_board;
 
 // A pair, and the place after it.
-#[derive(Drop)]
+#[derive(Clone, Copy)]
 pub struct PairAt {
     pub station: u8,
     pub figure: i32,

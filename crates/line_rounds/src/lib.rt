@@ -1,6 +1,8 @@
 // The rounds of a `rounds` line, played as they stand in the line, so that no buffer holds them.
 // Relies on one round by the set of its suspended stations and on the reader of a known number: the line was read before, so
 // that nothing here can miss. The player of a line relies on it, and the rounds taped on its reader of a round.
+#![tactic(auto)]
+
 ghost use Rattle.std.specs.Prelude.{◌≡◌};
 ghost use Rattle.std.proofs.Math.Option.{none};
 ghost use Rattle.model.specs.Calls.{board_refusal};
@@ -14,7 +16,7 @@ use rounds::round::play_round;
 use rounds::suspending::suspend;
 
 // The stations that a round suspends, as a set, and the place after the round.
-#[derive(Drop)]
+#[derive(Clone, Copy)]
 pub struct RoundAt {
     pub halted: [bool; 16],
     pub next: usize,

@@ -2,6 +2,8 @@
 // do, so that no buffer holds the steps and the stack is bounded by the depth of the brackets.
 // Relies on the step of a sound board and on the reader of a known number: the line was read before, so that nothing here can
 // miss. The player of a line and the tape of one rely on it.
+#![tactic(auto)]
+
 ghost use Rattle.std.specs.Prelude.{◌≡◌, ◌<◌, eqb};
 ghost use Rattle.std.proofs.Math.Option.{none};
 ghost use Rattle.model.specs.Calls.{board_refusal};
@@ -9,13 +11,12 @@ ghost use Rattle.item_walks.specs.ItemWalks.{repeat_after};
 ghost use Rattle.line_run.specs.LineRuns.{ItemRunnable, ItemsRunnable, ItemRuns, ItemsRun, LineCounts, RunsLine};
 
 use lexer::known::known_number;
-use lexer::word::TIMES_OPENING;
 use model::{RunVerdict, Verdict};
 use soundness::board::check_board;
 use stepping::repeated::step_counted;
 
 // The steps taken, and the place after the items.
-#[derive(Drop)]
+#[derive(Clone, Copy)]
 pub struct PartRun {
     pub taken: u32,
     pub next: usize,
@@ -47,7 +48,8 @@ fn run_item(board: &mut [u8], line: &[u8], at: usize) -> PartRun
             next: station.next,
         };
     }
-    let times = known_number(line, at + TIMES_OPENING);
+    let word = b"(times ";
+    let times = known_number(line, at + word.len());
     let repeats = times.value;
     let inner = times.next;
     let mut total: u32 = 0;

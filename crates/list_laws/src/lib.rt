@@ -1,10 +1,11 @@
 // A list in brackets that stands in a line: what its reader hands back, and the laws of lists that are read in a loop or walked
 // along once more, whatever kind of thing they list; nothing runs here.
 // Relies on the model's lists and the lexer; the readers of items, rounds and pairs and those who go along them rely on it.
+#![tactic(auto)]
 
 // How many things a list has, how many stations a board must have for them, 255 for those that no board takes, and the
 // place after the list; or the number of the refusal.
-#[derive(Drop)]
+#[derive(Clone, Copy)]
 pub enum Listed {
     At {
         count: usize,

@@ -1,5 +1,7 @@
 // The pairs of `propose`: a station and its figure in brackets, and how many pairs a line has.
 // Relies on the lexer's numbers and on lists as they are read; the reader of a line relies on it. It knows no board.
+#![tactic(auto)]
+
 ghost use Rattle.std.specs.Prelude.{[]};
 ghost use Rattle.model.specs.Forms.{pair_in};
 ghost use Rattle.list_laws.specs.Lists.{ListIs};
@@ -9,7 +11,7 @@ use lexer::number::{FoundFigure, FoundNumber, number, spaced_figure};
 use list_laws::Listed;
 
 // The pair read and the place after it, or the number of the refusal.
-#[derive(Drop)]
+#[derive(Clone, Copy)]
 pub enum FoundPair {
     At {
         station: u8,

@@ -20,7 +20,7 @@ use model::{RoundsVerdict, RunVerdict, Verdict};
 use sheet::form::{LineForm, read_line};
 
 // What is printed, without its LF, and how many bytes of the memory are the board that was laid last; 0 is none.
-#[derive(Drop)]
+#[derive(Clone, Copy)]
 pub struct Played {
     pub line: Line,
     pub laid: usize,

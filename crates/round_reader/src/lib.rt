@@ -1,6 +1,8 @@
 // The rounds of `rounds`: the stations that each round names in its brackets, and what they need of a board.
 // Relies on the lexer's numbers, on lists as they are read and on what rounds ask of a board; the reader of a line relies on it.
 // It knows no board.
+#![tactic(auto)]
+
 ghost use Rattle.std.specs.Prelude.{[], ◌∷◌, ◌<◌};
 ghost use Rattle.model.specs.Forms.{number_in, round_in};
 ghost use Rattle.halts.specs.Needs.{climbs, needs};

@@ -18,7 +18,7 @@ use round_reader::round_list;
 // they stand for, 65,537 for any number above 65,536. So do the number and the rounds of `rounds`: there are `rounds`
 // of them, and a board must have `needs` stations for them, 255 for rounds that no board takes. So do the `pairs` pairs of
 // `propose`.
-#[derive(Drop)]
+#[derive(Clone, Copy)]
 pub enum LineForm {
     Board { n: u8, k: u8 },
     Propose { station: u8, figure: i32 },

@@ -1,5 +1,7 @@
 // A line of a run sheet that takes no step, played without the line that it prints: nothing is written that nobody reads.
-// Relies on the calls and on the proposals of a line's pairs; the tape of a line relies on it.
+// Relies on the calls and on the proposals of a line's pairs; nothing rests on it yet.
+#![tactic(auto)]
+
 ghost use Rattle.model.specs.Forms as forms;
 ghost use Rattle.model.specs.Sheet.{play_form};
 ghost use Rattle.line_proposals.specs.LinePairs.{LineHas};

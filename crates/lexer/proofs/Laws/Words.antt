@@ -1,20 +1,36 @@
--- Words: where one ends, and which form it names.
--- Relies on the model's forms and on the laws of the word store; the proofs of src/word.rt rely on it.
+-- Words: where one ends, which form it names, and that the test of two texts for equality is the model's.
+-- Relies on the model's forms; the proofs of src/word.rt rely on it.
 use Rattle.model.proofs.Kit.{◌≡◌, refl, sym, ap, ◌∙◌, Bool, true, false, cond, ◌||◌, List, [], ◌∷◌, ◌++◌}
 use Rattle.model.proofs.Kit.{append_assoc, append-nil, ℕ, suc, ◌+◌, ◌-◌, ◌≤◌, ◌<◌, eq-eqb, ne_eqb, eqb, length, take}
-use Rattle.model.proofs.Kit.{drop, length-drop, drop_of_length-le, get_or, lit<, arith}
+use Rattle.model.proofs.Kit.{drop, length-drop, drop_of_length-le, get_or, arith}
 use lib.Seq.{take-suc, drop-cons, get_or-drop}
-use Rattle.model.specs.Forms.{board_row, propose_row, steps_row, show_row, rounds_row, word_rows, row_in, up_to_stop}
+use Rattle.model.proofs.Basics.Tests.{true-T}
+use Rattle.model.proofs.Sheet.SameTexts.{same_text, same_self}
+use Rattle.model.specs.Forms.{same, board_row, propose_row, steps_row, show_row, rounds_row, word_rows, row_in, up_to_stop}
 use Rattle.model.specs.Forms.{first_word, form_word}
-use Rattle.model.specs.Show.{text, text_from}
-use Rattle.words.specs.Store.{words, word_text, index_in}
-use Rattle.words.specs.Index as index
-use Rattle.words.proofs.Laws.Rows.{row_with, row_by_index}
+use Rattle.model.specs.Show.{text}
 use Rattle.lexer.specs.declared.word.FormWord.{FormWord}
 use Rattle.lexer.specs.declared.word.FormWord.TheVariants.{Board, Propose, Steps, Show, Rounds}
 use Rattle.lexer.specs.declared.word.Named.{Named}
 use Rattle.lexer.specs.declared.word.Named.TheVariants.{Form, Nothing}
 use Rattle.lexer.specs.Words.{WordEnd, named_row}
+
+-- ---- the test of two texts
+
+same_equal : (a b : List ℕ) → same a b ≡ true → a ≡ b
+same_equal a b e = same_text a b (true-T (same a b) e)
+
+-- an answer that is true exactly where two texts are equal is the model's
+pub same_is : (a b : List ℕ) (r : Bool) → (r ≡ true → a ≡ b) × (a ≡ b → r ≡ true) → r ≡ same a b
+same_is a b r h = go r h (same a b) refl
+  where
+    go : (r : Bool) → (r ≡ true → a ≡ b) × (a ≡ b → r ≡ true) → (s : Bool) → s ≡ same a b → r ≡ same a b
+    go true h s e = sym (ap (λ (x : List ℕ). same a x) (sym (h.0 refl)) ∙ same_self a)
+    go false h true e = h.1 (same_equal a b (sym e)) ∙ e
+    go false h false e = e
+
+pub same_says : (a b : List ℕ) (r t : Bool) → (r ≡ true → a ≡ b) × (a ≡ b → r ≡ true) → r ≡ t → same a b ≡ t
+same_says a b r t h e = sym (same_is a b r h) ∙ e
 
 -- ---- where a word ends
 
@@ -126,41 +142,35 @@ behind_bracket (b ∷ l) end h w = w.word ∙ sym (ap (λ (t : Bool). cond t (up
 
 -- ---- the form that a word names
 
--- the index of each form's word, as the code has it
-abbrev pub form_index : FormWord → ℕ
-form_index Board = index.board
-form_index Propose = index.propose
-form_index Steps = index.steps
-form_index Show = index.show
-form_index Rounds = index.rounds
+module _ (w : List ℕ) where
+  pub names_board : same w (text "board") ≡ true → named_row (Form Board) ≡ row_in word_rows w
+  unfolding named_row row_in word_rows board_row
+  names_board b = simp b
 
-abbrev forms : List ℕ
-forms = index.board ∷ index.propose ∷ index.steps ∷ index.show ∷ index.rounds ∷ []
+  pub names_propose : same w (text "board") ≡ false → same w (text "propose") ≡ true
+      → named_row (Form Propose) ≡ row_in word_rows w
+  unfolding named_row row_in word_rows board_row propose_row
+  names_propose b p = simp (b, p)
 
-row_with_lem : (f : FormWord) → row_with forms word_rows (form_index f) ≡ named_row (Form f)
-unfolding word_rows named_row
-row_with_lem Board = refl
-row_with_lem Propose = refl
-row_with_lem Steps = refl
-row_with_lem Show = refl
-row_with_lem Rounds = refl
+  pub names_steps : same w (text "board") ≡ false → same w (text "propose") ≡ false → same w (text "steps") ≡ true
+      → named_row (Form Steps) ≡ row_in word_rows w
+  unfolding named_row row_in word_rows board_row propose_row steps_row
+  names_steps b p s = simp (b, p, s)
 
-module _ (w : List ℕ) (k : ℕ) (is : k ≡ index_in words w) where
-  by_index : row_in word_rows w ≡ row_with forms word_rows k
-  unfolding word_rows board_row propose_row steps_row show_row rounds_row words word_text text text_from
-  by_index =
-      row_by_index forms word_rows
-      (lit< tt, refl, (lit< tt, refl, (lit< tt, refl, (lit< tt, refl, (lit< tt, refl, tt))))) w
-      ∙ ap (row_with forms word_rows) (sym is)
+  pub names_show : same w (text "board") ≡ false → same w (text "propose") ≡ false → same w (text "steps") ≡ false
+      → same w (text "show") ≡ true → named_row (Form Show) ≡ row_in word_rows w
+  unfolding named_row row_in word_rows board_row propose_row steps_row show_row
+  names_show b p s h = simp (b, p, s, h)
 
-  pub names_form : (f : FormWord) → k ≡ form_index f → named_row (Form f) ≡ row_in word_rows w
-  names_form f e = sym (by_index ∙ ap (row_with forms word_rows) e ∙ row_with_lem f)
+  pub names_rounds : same w (text "board") ≡ false → same w (text "propose") ≡ false → same w (text "steps") ≡ false
+      → same w (text "show") ≡ false → same w (text "rounds") ≡ true → named_row (Form Rounds) ≡ row_in word_rows w
+  unfolding named_row row_in word_rows board_row propose_row steps_row show_row rounds_row
+  names_rounds b p s h r = simp (b, p, s, h, r)
 
-  pub names_nothing : (k ≡ index.board → ⊥) → (k ≡ index.propose → ⊥) → (k ≡ index.steps → ⊥)
-      → (k ≡ index.show → ⊥) → (k ≡ index.rounds → ⊥) → named_row Nothing ≡ row_in word_rows w
-  unfolding word_rows named_row
-  names_nothing b p s h r =
-      sym (by_index ∙ simp (ne_eqb k _ b, ne_eqb k _ p, ne_eqb k _ s, ne_eqb k _ h, ne_eqb k _ r))
+  pub names_nothing : same w (text "board") ≡ false → same w (text "propose") ≡ false → same w (text "steps") ≡ false
+      → same w (text "show") ≡ false → same w (text "rounds") ≡ false → named_row Nothing ≡ row_in word_rows w
+  unfolding named_row row_in word_rows board_row propose_row steps_row show_row rounds_row
+  names_nothing b p s h r = simp (b, p, s, h, r)
 
 -- ---- the word that names the line's form
 

@@ -1,7 +1,7 @@
 -- A line that was read as pairs: where they stand, and the answer of its call at each return.
 -- Relies on the sheet's Readings, on what a read line holds and on pairs put in together; the proof of `propose_line`
 -- relies on it.
-use Rattle.model.proofs.Kit.{◌≡◌, refl, sym, ap, subst, ◌∙◌, List, [], ◌∷◌, ◌++◌, none, ℕ, ◌+◌, ◌≤◌, length, drop}
+use Rattle.model.proofs.Kit.{◌≡◌, refl, sym, ap, subst, ◌∙◌, List, [], ◌∷◌, ◌++◌, none, ℕ, ◌≤◌, length, drop}
 use Rattle.model.proofs.Kit.{length-append, arith}
 use Rattle.model.specs.declared.Verdict.{Verdict}
 use Rattle.model.specs.declared.Verdict.TheVariants.{Accepted, Refused}

@@ -14,7 +14,7 @@ use Rattle.model.specs.Rounds.{decided_on}
 use Rattle.model.specs.Show.{text, text_from, decimal}
 use Rattle.model.proofs.Sheet.Lists.{station_read, list_stops, no_more, rounds_read}
 use Rattle.model.proofs.Sheet.WrittenBack.{LineStood, line_stood}
-use Rattle.halts.specs.Needs as goal
+use Rattle.halts.specs.Needs as halts
 use Rattle.lexer.specs.declared.known.KnownNumber.{KnownNumber}
 use Rattle.lexer.specs.Known.{NumberStands, KnownIs}
 use Rattle.lexer.proofs.Laws.Given.{found_one}
@@ -62,14 +62,14 @@ module _ (line : List ℕ) (at count needs : ℕ) (has : LineHas line at count n
       record { k = q.0; rounds = q.1; is = q.2 }
 
   module _ (k : ℕ) (rs : List (List ℕ)) (e : read_line line ≡ reads (forms.rounds k rs)) where
-    pub summed : (word_place line ≡ at) × (count ≡ length rs) × (goal.needs k rs ≡ needs)
+    pub summed : (word_place line ≡ at) × (count ≡ length rs) × (halts.needs k rs ≡ needs)
     unfolding LineHas line_form
     summed =
-        let q : Rounds (word_place line) (length rs) (goal.needs k rs) ≡ Rounds at count needs =
+        let q : Rounds (word_place line) (length rs) (halts.needs k rs) ≡ Rounds at count needs =
         ap (line_form (word_place line)) (sym e) ∙ has in
         let place : word_place line ≡ at = cc in
         let many : count ≡ length rs = cc in
-        let most : goal.needs k rs ≡ needs = cc in
+        let most : halts.needs k rs ≡ needs = cc in
         (place, many, most)
 
     stood : (line ≡ written (forms.rounds k rs)) × InRange (forms.rounds k rs)

@@ -96,6 +96,7 @@ module _ {A : Type 0} (one : List ℕ → Option (Read A)) (line : List ℕ) (ws
 
       pub again : place < length line → (x : A) (after : ℕ) → spaced one (drop place line) ≡ found x (drop after line)
           → place < after → Along one line ws at (xs ++ (x ∷ [])) after
+      unfolding list_in read_as and_then found
       again inside x after e h = record {
         behind = omega (arith, along.behind);
         reads = λ fuel l. from fuel (along.reads fuel l).0 (along.reads fuel l).1 (along.reads fuel l).2;
@@ -104,15 +105,13 @@ module _ {A : Type 0} (one : List ℕ → Option (Read A)) (line : List ℕ) (ws
           one_more : (o : Option (Read (List A)))
               → read_as (λ is. xs ++ is) (and_then o λ is rest. found (x ∷ is) rest)
               ≡ read_as (λ is. (xs ++ (x ∷ [])) ++ is) o
-          one_more none = unfold read_as and_then in refl
+          one_more none = refl
           one_more (some r) =
-              unfold read_as and_then found in
               ap (λ (v : List A). found v r.rest) (sym (append_assoc xs (x ∷ []) r.value))
 
           next : (k : ℕ) → read_as (λ is. xs ++ is) (list_in one (suc k) (drop place line))
               ≡ read_as (λ is. (xs ++ (x ∷ [])) ++ is) (list_in one k (drop after line))
           next k =
-              unfold list_in and_then found in
               rw (first_byte line place, ne_eqb (get_or line place 0) 41 unclosed, e)
               (one_more (list_in one k (drop after line)))
 

@@ -1,6 +1,6 @@
 -- The part of the memory that is lent to a call: the bytes of the board, or all of a shorter memory.
 -- Relies on lists alone; the laws of a played line rely on it.
-use Rattle.model.proofs.Kit.{◌≡◌, refl, sym, ap, ◌∙◌, Bool, true, false, inl, inr, ⊎_elim, ◌⊎◌, List, ℕ, ◌-◌, ◌≤◌, ◌<◌}
+use Rattle.model.proofs.Kit.{◌≡◌, refl, sym, ap, ◌∙◌, Bool, true, false, inl, inr, ⊎_elim, ◌⊎◌, List, ℕ, ◌≤◌, ◌<◌}
 use Rattle.model.proofs.Kit.{leb-true, leb-false, leb, length, take, drop, drop_of_length-le, take_all, arith}
 use Prim.Native.Nat.{min}
 use native.Mathlib.Nat.{min-eq_left}
