@@ -29,7 +29,7 @@ pub extern "C" fn lufanelis_show(board: &[u8], line: &mut [u8]) -> u32
         return number as u32;
     }
     let bytes = shown.bytes;
-    bytes::copy(&bytes, line);
+    line[..512].copy_from_slice(&bytes);
     shown.len as u32 * 65536
 }
 
@@ -60,6 +60,6 @@ pub extern "C" fn lufanelis_play_line(
     }
     let played = player::line::play_line(line, laid, memory);
     let bytes = played.line.bytes;
-    bytes::copy(&bytes, printed);
+    printed[..512].copy_from_slice(&bytes);
     played.line.len as u64 + played.laid as u64 * 65536
 }

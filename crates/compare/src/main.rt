@@ -1,106 +1,147 @@
 // Compares two tapes of one run: three file names, a run sheet and both tapes. It prints the line number, the tape and the
 // culprit's line, or `none`, or the refusal.
 // Relies on the comparison for everything but reading and writing.
+#![tactic(auto)]
+
 ghost use Rattle.std.specs.Prelude.{◌≤◌, length};
 
-use answer_writer::{none_line, refused_line};
+use answer_writer::refused_line;
 use input::{Input, read_all};
-use libc::{STDERR_FILENO, STDOUT_FILENO};
-use line_writer::line::Line;
 use model::{Comparison, Tap};
+use std::env::{Env, FillError};
+use std::fmt::InlineText;
+use std::rt::Files;
+use std::{fs, io, str};
 use tapes::comparing::{compare, part_of};
 
-// The file that an argument names. Where it cannot be read, that is said.
-fn read_file(number: usize, buffer: &mut [u8]) -> Input
+fn has_argument<R: Env>(rt: &R, number: usize) -> bool {
+    let mut start = [0u8; 1];
+    !matches!(rt.arg(number, &mut start), Err(FillError::NotPresent))
+}
+
+fn open<R: Files>(rt: &R, name: &[u8]) -> io::Result<R::File> {
+    match str::from_utf8(name) {
+        Ok(path) => fs::open(rt, path),
+        Err(_) => Err(io::Error::new(io::ErrorKind::InvalidInput, "the name is not UTF-8")),
+    }
+}
+
+fn read_named<R: Files>(rt: &R, name: &[u8], buffer: &mut [u8]) -> Input
     ensures { result.len ≤ length buffer.new }
 {
-    let mut name = io::buffer();
-    let count = os::arg(number, &mut name);
-    let file = os::open_read(&name[..count]);
-    if file < 0 {
-        os::fail(&name[..count]);
-        return Input {
+    match open(rt, name) {
+        Ok(mut file) => read_all(&mut file, buffer),
+        Err(error) => Input {
             len: 0,
             whole: false,
-        };
+            error: Some(error),
+        },
     }
-    let input = read_all(file, buffer);
-    if !input.whole {
-        os::fail(&name[..count]);
+}
+
+// A line with the name and the system's words for the error, without its number behind them.
+fn complain<E: Print>(errors: &E, name: &[u8], error: io::Error) -> io::Result<()> {
+    let text = InlineText::<256>::of(error);
+    let all = text.as_str();
+    let reason = match all.split_once(" (os error ") {
+        Some((words, _)) => words,
+        None => all,
+    };
+    errors.write_all(name)?;
+    errors.write_all(b": ")?;
+    errors.write_all(reason.as_bytes())?;
+    errors.write_all(b"\n")
+}
+
+// The file that an argument names. Where it cannot be read, that is said. An argument that is longer than the name of any file
+// counts as empty, which no file is named.
+fn read_file<R: Env + Files, E: Print>(
+    rt: &R,
+    errors: &E,
+    number: usize,
+    buffer: &mut [u8],
+) -> Input
+    ensures { result.len ≤ length buffer.new }
+{
+    let mut name = [0u8; 4096];
+    let count = rt.arg(number, &mut name).unwrap_or(0);
+    let input = read_named(rt, &name[..count], buffer);
+    if let Some(error) = input.error {
+        let _ = complain(errors, &name[..count], error);
     }
-    libc::close(file);
     input
 }
 
-// An answer's line and its LF.
-fn print_line(line: Line)
-    requires { line.len ≤ length line.bytes }
-{
+fn print_refusal<P: Print>(rt: &P, number: u8) -> io::Result<()> {
+    let line = refused_line(number);
     let bytes = line.bytes;
     let len = line.len;
-    io::write_all(STDOUT_FILENO, &bytes[..len]);
-    io::write_all(STDOUT_FILENO, b"\n");
+    rt.write_all(&bytes[..len])?;
+    rt.write_all(b"\n")
 }
 
-fn print_difference(line: usize, tap: Tap, culprit: &[u8]) {
-    io::print_decimal(STDOUT_FILENO, line as u64);
+fn print_difference<P: Print>(rt: &P, line: usize, tap: Tap, culprit: &[u8]) -> io::Result<()> {
+    print!(rt; "{line}")?;
     match tap {
-        Tap::First => io::write_all(STDOUT_FILENO, b" 1 "),
-        Tap::Second => io::write_all(STDOUT_FILENO, b" 2 "),
-    };
-    io::write_all(STDOUT_FILENO, culprit);
-    io::write_all(STDOUT_FILENO, b"\n");
+        Tap::First => rt.write_all(b" 1 ")?,
+        Tap::Second => rt.write_all(b" 2 ")?,
+    }
+    rt.write_all(culprit)?;
+    rt.write_all(b"\n")
 }
 
-fn print_answer<'a>(sheet: &[u8], first: &'a [u8], second: &'a [u8]) {
+fn print_answer<P: Print>(rt: &P, sheet: &[u8], first: &[u8], second: &[u8]) -> io::Result<()> {
     let answer = compare(sheet, first, second);
     match answer {
-        Comparison::Refused { number } => print_line(refused_line(number)),
-        Comparison::Alike => print_line(none_line()),
+        Comparison::Refused { number } => print_refusal(rt, number),
+        Comparison::Alike => rt.write_all(b"none\n"),
         Comparison::Differ {
             line,
             tap,
             start,
             len,
-        } => print_difference(line, tap, part_of(first, second, tap, start, len)),
+        } => print_difference(rt, line, tap, part_of(first, second, tap, start, len)),
     }
 }
 
-// Each buffer holds one byte more than what is compared: 32,768 bytes of a sheet, and 98,304 of a tape. A longer sheet is
-// refused; a longer tape is not compared, since a part of it must not be taken for the whole.
-fn main() {
-    if os::arg_count() != 4 {
-        io::write_all(
-            STDERR_FILENO,
-            b"compare: the names of a sheet and of two tapes\n",
-        );
+// Each buffer holds one byte more than what is compared: 32,768 bytes of a sheet, and 98,304 of a tape. A longer sheet is refused;
+// a longer tape is not compared, since a part of it must not be taken for the whole. A failed write ends the program with no word.
+fn main(rt: HostRuntime) {
+    let errors = rt.stderr();
+    if !has_argument(&rt, 3) || has_argument(&rt, 4) {
+        let _ = errors.write_all(b"compare: the names of a sheet and of two tapes\n");
         return;
     }
     let mut sheet = [0u8; 32769];
     let mut first = [0u8; 98305];
     let mut second = [0u8; 98305];
-    let run = read_file(1, &mut sheet);
+    let run = read_file(&rt, &errors, 1, &mut sheet);
     if !run.whole {
         return;
     }
-    let one = read_file(2, &mut first);
+    let one = read_file(&rt, &errors, 2, &mut first);
     if !one.whole {
         return;
     }
-    let other = read_file(3, &mut second);
+    let other = read_file(&rt, &errors, 3, &mut second);
     if !other.whole {
         return;
     }
     if 98304 < one.len {
-        io::write_all(STDERR_FILENO, b"the first tape is too long\n");
+        let _ = errors.write_all(b"the first tape is too long\n");
         return;
     }
     if 98304 < other.len {
-        io::write_all(STDERR_FILENO, b"the second tape is too long\n");
+        let _ = errors.write_all(b"the second tape is too long\n");
         return;
     }
     let end = run.len;
     let first_end = one.len;
     let second_end = other.len;
-    print_answer(&sheet[..end], &first[..first_end], &second[..second_end]);
+    let _ = print_answer(
+        &rt,
+        &sheet[..end],
+        &first[..first_end],
+        &second[..second_end],
+    );
 }

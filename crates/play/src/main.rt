@@ -1,13 +1,14 @@
 // Plays a run sheet: reads standard input whole, and writes each answer as soon as it is known.
 // Relies on the answers of a sheet for everything but reading and writing.
+#![tactic(auto)]
+
 use answers::next_answer;
 use input::read_all;
-use libc::{STDIN_FILENO, STDOUT_FILENO};
 
-// The buffer holds one byte more than the longest sheet that is played.
-fn main() {
+// The buffer holds one byte more than the longest sheet that is played. A failed read or write ends the program with no word.
+fn main(rt: HostRuntime) {
     let mut sheet = [0u8; 32769];
-    let input = read_all(STDIN_FILENO, &mut sheet);
+    let input = read_all(&mut rt.stdin(), &mut sheet);
     if !input.whole {
         return;
     }
@@ -19,7 +20,7 @@ fn main() {
         let answer = next_answer(&sheet[..len], at, laid, &mut memory);
         let bytes = answer.line.bytes;
         let count = answer.line.len;
-        if !io::write_all(STDOUT_FILENO, &bytes[..count]) {
+        if rt.write_all(&bytes[..count]).is_err() {
             return;
         }
         laid = answer.laid;

@@ -1,14 +1,16 @@
 // Writes the tape of a run sheet: reads standard input whole, and writes the tape part by part.
 // Relies on the tape of a sheet for everything but reading and writing.
+#![tactic(auto)]
+
 use answers::next_answer;
 use input::read_all;
-use libc::{STDIN_FILENO, STDOUT_FILENO};
 use taped_sheet::next_part;
 
 // The buffer for the sheet holds one byte more than the longest that is played; a longer one is refused as the player refuses it.
-fn main() {
+// A failed read or write ends the program with no word.
+fn main(rt: HostRuntime) {
     let mut sheet = [0u8; 32769];
-    let input = read_all(STDIN_FILENO, &mut sheet);
+    let input = read_all(&mut rt.stdin(), &mut sheet);
     if !input.whole {
         return;
     }
@@ -18,7 +20,7 @@ fn main() {
         let answer = next_answer(&sheet[..len], 0, 0, &mut memory);
         let bytes = answer.line.bytes;
         let count = answer.line.len;
-        io::write_all(STDOUT_FILENO, &bytes[..count]);
+        let _ = rt.write_all(&bytes[..count]);
         return;
     }
     let mut kept = [0u8; 16904];
@@ -37,7 +39,7 @@ fn main() {
             &mut out,
         );
         let count = part.len;
-        if !io::write_all(STDOUT_FILENO, &out[..count]) {
+        if rt.write_all(&out[..count]).is_err() {
             return;
         }
         at = part.next;

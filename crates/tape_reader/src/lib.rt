@@ -1,16 +1,16 @@
 // The test of a tape line: a station, the kind of its step and the fields of that kind, between brackets.
-// Relies on the lexer's numbers and words, on the word store and on the test for the closing bracket; the comparison of tapes
-// relies on it.
+// Relies on the lexer's numbers and words and on the test for the closing bracket; the comparison of tapes relies on it.
+#![tactic(auto)]
+
 ghost use Rattle.std.specs.Prelude.{◌≡◌, ◌≤◌, length, drop};
 ghost use Rattle.model.specs.Tape.{read_in, kind_rows, is_entry};
 ghost use Rattle.model.specs.Forms.{row_in};
 ghost use Rattle.tape_reader.specs.Reading.{given, by_row, EndsIs};
 
 use brackets::closes;
+use check::same;
 use lexer::number::{FoundFigure, FoundNumber, number, spaced_figure, spaced_number};
 use lexer::word::word_end;
-use words::index::{ADOPTED, DECIDED, MARKED, READ, SPENT, WENT, WROTE};
-use words::index_of;
 
 // Whether the field of `read` stands at `at`: 1 for a filled register and 0 for an empty one.
 fn read_field(line: &[u8], at: usize) -> bool
@@ -61,26 +61,25 @@ fn kind_fields(line: &[u8], at: usize, word: &[u8]) -> bool
     requires { at ≤ length line.now }
     ensures { result ≡ given (by_row (row_in kind_rows word.now) (drop at line.now)) }
 {
-    let kind = index_of(word);
-    if kind == WROTE {
+    if same(word, b"wrote") {
         return closes(line, at);
     }
-    if kind == READ {
+    if same(word, b"read") {
         return read_field(line, at);
     }
-    if kind == WENT {
+    if same(word, b"went") {
         return end_fields(line, at, 0, 99);
     }
-    if kind == MARKED {
+    if same(word, b"marked") {
         return end_fields(line, at, 1, 2);
     }
-    if kind == ADOPTED {
+    if same(word, b"adopted") {
         return end_fields(line, at, 0, 99);
     }
-    if kind == DECIDED {
+    if same(word, b"decided") {
         return end_fields(line, at, 0, 99);
     }
-    if kind == SPENT {
+    if same(word, b"spent") {
         return end_fields(line, at, 0, 99);
     }
     false

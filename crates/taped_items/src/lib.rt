@@ -2,18 +2,19 @@
 // the line is run, so that no buffer holds the steps and the stack is bounded by the depth of the brackets.
 // Relies on one step taped and on the reader of a known number: the line was read before, so that nothing here can miss. The
 // tape of a line relies on it.
+#![tactic(auto)]
+
 ghost use Rattle.std.specs.Prelude.{◌≡◌, ◌<◌};
 ghost use Rattle.item_walks.specs.ItemWalks.{ItemReads, ItemsRead, repeat_after};
 ghost use Rattle.taping.specs.Taping.{taping, Ready};
 ghost use Rattle.taped_items.specs.TapedItems.{idle, ItemTapes, ItemsTape};
 
 use lexer::known::known_number;
-use lexer::word::TIMES_OPENING;
 use taping::Taped;
 use taping::single::tape_step;
 
 // What is still to do afterwards, and the place after the items.
-#[derive(Drop)]
+#[derive(Clone, Copy)]
 pub struct PartTaped {
     pub left: usize,
     pub room: usize,
@@ -52,7 +53,8 @@ fn tape_item(board: &mut [u8], line: &[u8], at: usize, out: &mut [u8], taped: Ta
             next: station.next,
         };
     }
-    let times = known_number(line, at + TIMES_OPENING);
+    let word = b"(times ";
+    let times = known_number(line, at + word.len());
     let repeats = times.value;
     let inner = times.next;
     let mut done = taped;

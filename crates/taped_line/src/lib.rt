@@ -1,10 +1,13 @@
-// One line of a sheet taped: the steps of a `steps` line and of a `rounds` line, and nothing for any other line, of which only
-// what it does to the board is done.
-// Relies on items run, on items and rounds taped and on lines played unprinted; the algorithm's own line and the tape of a
-// sheet rely on it.
+// One line of a sheet taped: the steps of a `steps` line and of a `rounds` line, and nothing for any other line, which is
+// played.
+// Relies on items run, on items and rounds taped and on the player of a line; the algorithm's own line and the tape of a sheet
+// rely on it.
+#![tactic(auto)]
+
 ghost use Rattle.std.specs.Prelude.{◌≡◌};
 ghost use Rattle.std.proofs.Math.Option.{none};
 ghost use Rattle.model.specs.Calls.{board_refusal};
+ghost use Rattle.model.specs.Sheet.{play_line};
 ghost use Rattle.line_run.specs.LineRuns.{LineCounts};
 ghost use Rattle.line_rounds.specs.LineRounds.{LineHas};
 ghost use Rattle.taped_line.specs.TapedLines.{Room, IsRead, Passable, LineCallsTaped, LinePassed, LineTaped};
@@ -12,17 +15,16 @@ ghost use Rattle.taped_line.specs.TapedLines.{Room, IsRead, Passable, LineCallsT
 use lexer::known::known_number;
 use line_run::run_items;
 use model::Verdict;
-use player::line::least;
+use player::line::{least, play_line};
 use rounds::refusing::rounds_refusal;
 use sheet::form::{LineForm, read_line};
 use soundness::board::check_board;
 use taped_items::tape_items;
 use taped_rounds::tape_rounds_at;
 use taping::Taped;
-use unprinted::{lay_unprinted, propose_all_unprinted, propose_unprinted};
 
 // How many bytes of the memory are the board that was laid last, and what is still to do of the tape.
-#[derive(Drop)]
+#[derive(Clone, Copy)]
 pub struct TapedLine {
     pub laid: usize,
     pub taped: Taped,
@@ -42,8 +44,7 @@ fn pass_items(board: &mut [u8], line: &[u8], at: usize, taped: Taped) -> Taped
     }
 }
 
-// A line that was read as `steps` with its items from `at` on and that count, on a lent board. One that is refused adds
-// nothing.
+// A line that was read as `steps` with its items from `at` on and that count, on a lent board. One that is refused adds nothing.
 fn steps_on(
     board: &mut [u8],
     line: &[u8],
@@ -137,6 +138,17 @@ fn tape_rounds(
     TapedLine { laid, taped }
 }
 
+// A line that takes no step.
+fn play_on(memory: &mut [u8], laid: usize, line: &[u8], taped: Taped) -> TapedLine
+    ensures { (result.taped ≡ taped) × (result.laid ≡ (play_line laid memory.old line.now).laid) × (memory.new ≡ (play_line laid memory.old line.now).memory) }
+{
+    let played = play_line(line, laid, memory);
+    TapedLine {
+        laid: played.laid,
+        taped,
+    }
+}
+
 // A line as the form that it was read as, on a memory of any content and length.
 pub fn tape_read(
     line: &[u8],
@@ -154,20 +166,14 @@ pub fn tape_read(
         LineForm::Rounds { at, rounds, needs } => {
             tape_rounds(memory, laid, line, at, rounds, needs, out, taped)
         }
-        LineForm::Board { n, k } => TapedLine {
-            laid: lay_unprinted(memory, laid, n, k),
-            taped,
-        },
-        LineForm::Propose { station, figure } => {
-            propose_unprinted(memory, laid, station, figure);
-            TapedLine { laid, taped }
-        }
-        LineForm::Proposals { at, pairs: _ } => {
-            propose_all_unprinted(memory, laid, line, at);
-            TapedLine { laid, taped }
-        }
-        LineForm::Show => TapedLine { laid, taped },
-        LineForm::Refused { number: _ } => TapedLine { laid, taped },
+        LineForm::Board { n: _, k: _ } => play_on(memory, laid, line, taped),
+        LineForm::Propose {
+            station: _,
+            figure: _,
+        } => play_on(memory, laid, line, taped),
+        LineForm::Proposals { at: _, pairs: _ } => play_on(memory, laid, line, taped),
+        LineForm::Show => play_on(memory, laid, line, taped),
+        LineForm::Refused { number: _ } => play_on(memory, laid, line, taped),
     }
 }
 

@@ -1,5 +1,7 @@
 // The rounds of a `rounds` line taped, as they stand in the line, so that no buffer holds them.
 // Relies on the steps of one station taped and on the reader of a round in a line; the tape of a line relies on it.
+#![tactic(auto)]
+
 ghost use Rattle.std.specs.Prelude.{◌≡◌, cond, [], replicate};
 ghost use Rattle.taping.specs.Taping.{taping, taped_steps, Ready};
 ghost use Rattle.line_rounds.specs.LineRounds.{RoundsStand};

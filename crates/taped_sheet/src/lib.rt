@@ -1,5 +1,7 @@
 // The tape of a sheet in parts that fit a lent buffer, so that no tape is held in memory.
 // Relies on the tape of a line; the program that writes a tape relies on it.
+#![tactic(auto)]
+
 ghost use Rattle.std.specs.Prelude.{◌≡◌, ◌≤◌, ◌<◌, ◌/◌, length};
 ghost use Rattle.taped_line.specs.TapedLines.{Room};
 ghost use Rattle.taped_sheet.specs.SheetParts.{MayFill, Kept, LineTried, PartIs, part_at};
@@ -11,7 +13,7 @@ use taping::Taped;
 
 // The bytes that were put in; the place of the sheet to go on from, with how many lines of the tape of the line there are
 // written; and the board in force.
-#[derive(Drop)]
+#[derive(Clone, Copy)]
 pub struct SheetPart {
     pub len: usize,
     pub next: usize,
@@ -48,7 +50,7 @@ fn copy_all(from: &[u8], to: &mut [u8])
     requires { length to.old ≡ length from.now }
     ensures { to.new ≡ from.now }
 {
-    bytes::copy(from, to);
+    to.copy_from_slice(from);
 }
 
 // The memory before such a line is kept.

@@ -8,7 +8,7 @@ use lines::line_end;
 
 // Whether the tapes differ; if they do, the line's number, counted from 1, the place where it begins on both tapes, and where it
 // ends on the first and on the second.
-#[derive(Drop)]
+#[derive(Clone, Copy)]
 pub struct Gap {
     pub differ: bool,
     pub number: usize,

@@ -18,7 +18,7 @@ fn put_in(out: &mut [u8], at: usize, line: Line)
 {
     let bytes = line.bytes;
     let len = line.len;
-    bytes::copy(&bytes[..len], &mut out[at..]);
+    out[at..at + len].copy_from_slice(&bytes[..len]);
 }
 
 // Where no more lines are wanted nothing is done. A line that is passed over is not built, and neither is the answer. A step

@@ -2,7 +2,6 @@
 -- Relies on the packing's definitions and on the model's runs; the proofs of `board` rely on it.
 use Rattle.model.proofs.Kit.{◌≡◌, refl, sym, ap, ◌∙◌, List, none, some, ℕ, ◌+◌, ◌-◌, ◌≤◌, leb, leb→le, length}
 use Rattle.model.proofs.Kit.{arith}
-use Rattle.model.specs.declared.StepAnswer.TheVariants.{Refused}
 use Rattle.model.specs.declared.Verdict.{Verdict}
 use Rattle.model.specs.declared.RunVerdict.{RunVerdict}
 use Rattle.model.specs.declared.RunVerdict.TheVariants as runs

@@ -2,7 +2,8 @@
 -- Relies on the model's lines and forms; the proofs of `lent_lines` rely on it.
 use Rattle.model.proofs.Kit.{◌≡◌, refl, sym, ap, subst, ◌∙◌, Bool, cond, ◌&&◌, inl, inr, List, [], ◌++◌, none, some}
 use Rattle.model.proofs.Kit.{Option, ℕ, ◌+◌, ◌≤◌, ◌<◌, ◌*◌, le-leb, lt-leb, eqb, leb, leb→le, length, take, drop}
-use Rattle.model.proofs.Kit.{length-replicate, length-append, take_all, w32, w64, Fits, mul-le-mul, arith}
+use Rattle.model.proofs.Kit.{length-replicate, length-append, w32, w64, Fits, mul-le-mul, arith}
+use lib.Seq.{length-take-le}
 use Rattle.model.specs.declared.ShownLine.{ShownLine}
 use Rattle.model.specs.Layout.{board_length}
 use Rattle.model.specs.Calls as calls
@@ -55,11 +56,13 @@ module _ (l w : List ℕ) (e : w ≡ form_word l) where
 -- ---- a lent buffer
 
 -- 512 bytes that are copied to the front of a buffer
-copied : (l d e : List ℕ) (n : ℕ) → n ≡ length l → length l ≡ 512 → e ≡ take n l ++ drop n d → e ≡ handed l d
+copied : (l d q : List ℕ) → q ≡ l → q ++ drop 512 d ≡ handed l d
 unfolding handed
-copied l d e n p q h =
-    h ∙ (λ i. take (p i) l ++ drop ((p ∙ q) i) d)
-    ∙ ap (λ (x : List ℕ). x ++ drop 512 d) (take_all (length l) l (omega arith))
+copied l d q e = ap (λ (x : List ℕ). x ++ drop 512 d) e
+
+-- the front that they are copied to is as long
+front : (l d : List ℕ) → 512 ≤ length d → length l ≡ 512 → length (take 512 d) ≡ length l
+front l d h q = length-take-le 512 d h ∙ sym q
 
 module _ {A : Type 0} (d : List ℕ) (given other : A) where
   no_room : length d < 512 → other ≡ in_room d given other
@@ -151,8 +154,8 @@ module _ (b : List ℕ) (s : ShownLine) (told : shown_told s ≡ show b) where
   len_packs = record { fits = omega (arith, len_small) }
 
   module _ (d : List ℕ) (h : 512 ≤ length d) where
-    pub line_fits : length s.bytes ≤ length d
-    line_fits = omega (arith, its_length)
+    pub line_fits : length (take 512 d) ≡ length s.bytes
+    line_fits = front s.bytes d h its_length
 
     pub show_turned : (k : ℕ) → k ≡ pack_verdict (verdict s.verdict) → 0 < k → Shows b d k d
     unfolding pack_show show
@@ -162,14 +165,13 @@ module _ (b : List ℕ) (s : ShownLine) (told : shown_told s ≡ show b) where
           beside (show b) d _ refl q ∙ room d _ _ h,
         )
 
-    pub show_given : (k n : ℕ) (e : List ℕ) → k ≡ pack_verdict (verdict s.verdict) → k ≤ 0 → n ≡ length s.bytes
-        → e ≡ take n s.bytes ++ drop n d
-        → Shows b d (s.len * 65536) e
+    pub show_given : (k : ℕ) (q : List ℕ) → k ≡ pack_verdict (verdict s.verdict) → k ≤ 0 → q ≡ s.bytes
+        → Shows b d (s.len * 65536) (q ++ drop 512 d)
     unfolding pack_show
-    show_given k n e p l q c =
+    show_given k q p l c =
         let z : pack_verdict (show b).refusal ≤ 0 = omega (arith, p, ap pack_verdict its_verdict) in (
           omega (arith, z, its_len) ∙ room d _ _ h,
-          copied s.bytes d e n q its_length c ∙ ap (λ (x : List ℕ). handed x d) its_bytes
+          copied s.bytes d q c ∙ ap (λ (x : List ℕ). handed x d) its_bytes
               ∙ fills (show b) d _ refl (listed b) z ∙ room d _ _ h,
         )
 
@@ -222,8 +224,8 @@ module _ (l m : List ℕ) (laid : ℕ) (r : Played) (e : List ℕ) (plays : Play
   unfolding filled
   line_length = ap length its_line ∙ simp (length-append, length-replicate) (omega (arith, plays.short))
 
-  pub printed_fits : (d : List ℕ) → 512 ≤ length d → length r.line.bytes ≤ length d
-  printed_fits d h = omega (arith, line_length)
+  pub printed_fits : (d : List ℕ) → 512 ≤ length d → length (take 512 d) ≡ length r.line.bytes
+  printed_fits d h = front r.line.bytes d h line_length
 
   laid_small : laid ≤ 4294967295 → r.laid ≤ 4294967295
   laid_small few = subst (λ (k : ℕ). k ≤ 4294967295) (sym plays.laid) (line_laid laid m few l)
@@ -249,13 +251,12 @@ module _ (l m d : List ℕ) (laid : ℕ) where
     play_large k = (too_large d _ _ laid h k, too_large d _ _ laid h k, too_large d _ _ laid h k)
 
     pub play_given : laid ≤ 4294967295 → (r : Played) (e : List ℕ) → Plays (play_line laid m l) r e
-        → (n : ℕ) (p : List ℕ) → n ≡ length r.line.bytes → p ≡ take n r.line.bytes ++ drop n d
-        → Answers (r.line.len + r.laid * 65536) e p
+        → (q : List ℕ) → q ≡ r.line.bytes → Answers (r.line.len + r.laid * 65536) e (q ++ drop 512 d)
     unfolding pack_played
-    play_given few r e plays n p q c = (
+    play_given few r e plays q c = (
       (λ i. plays.line.len i + plays.laid i * 65536) ∙ played d _ _ laid h few,
       plays.memory ∙ played d _ _ laid h few,
-      copied r.line.bytes d p n q (line_length l m laid r e plays) c
+      copied r.line.bytes d q c
           ∙ ap (λ (x : List ℕ). handed x d) (its_line l m laid r e plays)
           ∙ played d _ _ laid h few,
     )

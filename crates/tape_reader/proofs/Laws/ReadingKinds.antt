@@ -1,19 +1,15 @@
 -- The kind by its word, and the whole line: a bracket, the station, a space, and the kind with its fields.
--- Relies on the model's table of kinds, on the word store and on the lexer's laws of numbers and of a word's end; the
--- proofs of src/reading.rt rely on it.
-use Rattle.model.proofs.Kit.{◌≡◌, refl, sym, ap, subst, ◌∙◌, Bool, true, false, List, [], ◌∷◌, none, some, Option, ℕ}
-use Rattle.model.proofs.Kit.{◌+◌, ◌-◌, ◌≤◌, lit<, eq-eqb, ne_eqb, length, take, drop, length-drop, get_or, drop-drop}
-use Rattle.model.proofs.Kit.{take_all, arith}
+-- Relies on the model's table of kinds and on the lexer's laws of numbers and of a word's end; the proofs of
+-- src/reading.rt rely on it.
+use Rattle.model.proofs.Kit.{◌≡◌, refl, sym, ap, subst, ◌∙◌, Bool, true, false, List, none, some, Option, ℕ, ◌+◌, ◌-◌}
+use Rattle.model.proofs.Kit.{◌≤◌, eq-eqb, ne_eqb, length, take, drop, length-drop, get_or, drop-drop, take_all, arith}
 use lib.ListN.{length-take, get_or-eq_default}
-use Rattle.model.specs.Show.{text, text_from}
+use Rattle.model.specs.Show.{text}
 use Rattle.model.specs.Figure.{Figure}
 use Rattle.model.specs.Filled.{Report}
-use Rattle.model.specs.Listing.{wrote, went, marked, adopted, decided, spent}
+use Rattle.model.specs.Listing.{went, marked, adopted, decided, spent}
 use Rattle.model.specs.Forms.{found, and_then, same, WordRow, row_in, up_to_stop}
 use Rattle.model.specs.Tape.{read_in, kind_rows, kind_in, by_station, entry_in, is_entry}
-use Rattle.words.specs.Store.{words, word_text, index_in}
-use Rattle.words.specs.Index as index
-use Rattle.words.proofs.Laws.Rows.{row_with, row_by_index}
 use Rattle.lexer.specs.declared.number.FoundNumber.{FoundNumber}
 use Rattle.lexer.specs.declared.number.FoundNumber.TheVariants as numbers
 use Rattle.lexer.specs.Placed.{NumberIs}
@@ -25,74 +21,51 @@ use Rattle.tape_reader.proofs.Laws.ReadingFields.{closes_given}
 
 -- ---- the kind that a word names
 
--- the indices of the kinds' words, in the order of the model's table
-abbrev kinds : List ℕ
-kinds =
-    index.wrote ∷ index.read ∷ index.went ∷ index.marked ∷ index.adopted ∷ index.decided ∷ index.spent ∷ []
-
-module _ (w line : List ℕ) (at k : ℕ) (is : k ≡ index_in words w) (t : Bool) where
-  by_index : row_in kind_rows w ≡ row_with kinds kind_rows k
-  unfolding kind_rows words word_text text text_from
-  by_index =
-      row_by_index kinds kind_rows (
-        lit< tt,
-        refl,
-        (lit< tt, refl, (lit< tt, refl, (lit< tt, refl, (lit< tt, refl, (lit< tt, refl, (lit< tt, refl, tt)))))),
-      ) w
-      ∙ ap (row_with kinds kind_rows) (sym is)
-
-  -- the row with the word's index reads the fields
-  by_row_lem : (i : ℕ) (r : WordRow (Report Figure)) → k ≡ i → row_with kinds kind_rows i ≡ some r
-      → t ≡ given (r.reader (drop at line))
+module _ (w line : List ℕ) (at : ℕ) (t : Bool) where
+  pub kind_wrote : same w (text "wrote") ≡ true → t ≡ same (drop at line) (text ")")
       → t ≡ given (by_row (row_in kind_rows w) (drop at line))
-  unfolding by_row
-  by_row_lem i r e row h = rw (by_index ∙ ap (row_with kinds kind_rows) e ∙ row) h
+  unfolding by_row row_in kind_rows
+  kind_wrote a h = rw a (closes_given _ _ t h)
 
-  pub kind_wrote : k ≡ index.wrote → t ≡ same (drop at line) (text ")")
-      → t ≡ given (by_row (row_in kind_rows w) (drop at line))
-  unfolding kind_rows
-  kind_wrote e h = by_row_lem index.wrote _ e refl (closes_given _ _ t h)
+  module _ (a : same w (text "wrote") ≡ false) where
+    pub kind_read : same w (text "read") ≡ true → t ≡ given (read_in (drop at line))
+        → t ≡ given (by_row (row_in kind_rows w) (drop at line))
+    unfolding by_row row_in kind_rows
+    kind_read b h = rw (a, b) h
 
-  pub kind_read : k ≡ index.read → t ≡ given (read_in (drop at line))
-      → t ≡ given (by_row (row_in kind_rows w) (drop at line))
-  unfolding kind_rows
-  kind_read e h = by_row_lem index.read _ e refl h
+    module _ (b : same w (text "read") ≡ false) where
+      pub kind_went : same w (text "went") ≡ true → EndsIs line at 0 99 t
+          → t ≡ given (by_row (row_in kind_rows w) (drop at line))
+      unfolding by_row row_in kind_rows
+      kind_went c h = rw (a, b, c) (h.ends went)
 
-  pub kind_went : k ≡ index.went → EndsIs line at 0 99 t → t ≡ given (by_row (row_in kind_rows w) (drop at line))
-  unfolding kind_rows
-  kind_went e h = by_row_lem index.went _ e refl (h.ends went)
+      module _ (c : same w (text "went") ≡ false) where
+        pub kind_marked : same w (text "marked") ≡ true → EndsIs line at 1 2 t
+            → t ≡ given (by_row (row_in kind_rows w) (drop at line))
+        unfolding by_row row_in kind_rows
+        kind_marked d h = rw (a, b, c, d) (h.ends marked)
 
-  pub kind_marked : k ≡ index.marked → EndsIs line at 1 2 t → t ≡ given (by_row (row_in kind_rows w) (drop at line))
-  unfolding kind_rows
-  kind_marked e h = by_row_lem index.marked _ e refl (h.ends marked)
+        module _ (d : same w (text "marked") ≡ false) where
+          pub kind_adopted : same w (text "adopted") ≡ true → EndsIs line at 0 99 t
+              → t ≡ given (by_row (row_in kind_rows w) (drop at line))
+          unfolding by_row row_in kind_rows
+          kind_adopted e h = rw (a, b, c, d, e) (h.ends adopted)
 
-  pub kind_adopted : k ≡ index.adopted → EndsIs line at 0 99 t → t ≡ given (by_row (row_in kind_rows w) (drop at line))
-  unfolding kind_rows
-  kind_adopted e h = by_row_lem index.adopted _ e refl (h.ends adopted)
+          module _ (e : same w (text "adopted") ≡ false) where
+            pub kind_decided : same w (text "decided") ≡ true → EndsIs line at 0 99 t
+                → t ≡ given (by_row (row_in kind_rows w) (drop at line))
+            unfolding by_row row_in kind_rows
+            kind_decided f h = rw (a, b, c, d, e, f) (h.ends decided)
 
-  pub kind_decided : k ≡ index.decided → EndsIs line at 0 99 t → t ≡ given (by_row (row_in kind_rows w) (drop at line))
-  unfolding kind_rows
-  kind_decided e h = by_row_lem index.decided _ e refl (h.ends decided)
+            module _ (f : same w (text "decided") ≡ false) where
+              pub kind_spent : same w (text "spent") ≡ true → EndsIs line at 0 99 t
+                  → t ≡ given (by_row (row_in kind_rows w) (drop at line))
+              unfolding by_row row_in kind_rows
+              kind_spent g h = rw (a, b, c, d, e, f, g) (h.ends spent)
 
-  pub kind_spent : k ≡ index.spent → EndsIs line at 0 99 t → t ≡ given (by_row (row_in kind_rows w) (drop at line))
-  unfolding kind_rows
-  kind_spent e h = by_row_lem index.spent _ e refl (h.ends spent)
-
-pub no_kind : (w line : List ℕ) (at k : ℕ) → k ≡ index_in words w → (k ≡ index.wrote → ⊥) → (k ≡ index.read → ⊥)
-    → (k ≡ index.went → ⊥) → (k ≡ index.marked → ⊥) → (k ≡ index.adopted → ⊥) → (k ≡ index.decided → ⊥)
-    → (k ≡ index.spent → ⊥) → false ≡ given (by_row (row_in kind_rows w) (drop at line))
-unfolding by_row given kind_rows
-no_kind w line at k is a b c d e f g =
-    let other : row_with kinds kind_rows k ≡ none = simp (
-      ne_eqb k _ a,
-      ne_eqb k _ b,
-      ne_eqb k _ c,
-      ne_eqb k _ d,
-      ne_eqb k _ e,
-      ne_eqb k _ f,
-      ne_eqb k _ g,
-    ) in
-    rw (by_index w line at k is false ∙ other)
+              pub no_kind : same w (text "spent") ≡ false → false ≡ given (by_row (row_in kind_rows w) (drop at line))
+              unfolding by_row row_in kind_rows given
+              no_kind g = rw (a, b, c, d, e, f, g)
 
 -- ---- the whole line
 

@@ -1,23 +1,20 @@
 -- The line of a tape piece by piece: its texts by the kind of step, the room that each piece finds, and their order.
 -- Relies on the laws of putting texts and on the length of a tape line; the proofs of src/writing.rt rely on it.
-use Rattle.model.proofs.Kit.{◌≡◌, refl, sym, ap, subst, ◌∙◌, Bool, true, false, cond, List, [], ◌∷◌, ◌++◌, append_assoc}
+use Rattle.model.proofs.Kit.{◌≡◌, sym, ap, subst, ◌∙◌, Bool, true, false, cond, List, [], ◌∷◌, ◌++◌, append_assoc}
 use Rattle.model.proofs.Kit.{ℕ, arith}
 use Prim.Native.String.{String}
-use mir.Val.{bool_byte}
 use Rattle.model.specs.declared.StepAnswer.{StepAnswer}
 use Rattle.model.specs.declared.StepAnswer.TheVariants.{Wrote, Read, Went, Marked, Adopted, Decided, Spent, Refused}
 use Rattle.model.specs.Figure.{Figure}
 use Rattle.model.specs.Listing.{read}
-use Rattle.model.specs.Show.{text, text_from, decimal}
+use Rattle.model.specs.Show.{text, text_from, decimal_in, decimal}
 use Rattle.model.specs.Tape.{end_text, kind_text, entry_text}
 use Rattle.model.specs.Told.{told}
 use Rattle.line_writer.specs.declared.line.Line.{Line}
 use Rattle.line_writer.specs.Puts.{Holds, Puts, Room}
 use Rattle.shown.specs.Texts.{standing_bytes}
 use Rattle.line_writer.proofs.Putting.{puts_nothing, puts_then, puts_same, puts_holds}
-use Rattle.line_writer.proofs.Rooms.{Rooms, rooms, rooms_four, holds_room, room_same, room_first, room_next}
-use Rattle.words.specs.Store.{words, word_text}
-use Rattle.words.specs.Index as index
+use Rattle.line_writer.proofs.Rooms.{Rooms, rooms, rooms_four, holds_room, room_same}
 use Rattle.tape_writer.specs.Writing.{end_bytes}
 use Rattle.tape_writer.proofs.Laws.WritingLength.{line_short}
 
@@ -25,38 +22,16 @@ use Rattle.tape_writer.proofs.Laws.WritingLength.{line_short}
 pub puts_back : {line r : Line} {s t : List ℕ} → t ≡ s → Puts line s r → Puts line t r
 puts_back e p = puts_same (sym e) p
 
--- ---- a read and whether its register was filled, as the code casts it; 32 is the space and 41 is ")"
-
-bit : (filled : Bool) → bool_byte filled ≡ cond filled 1 0
-bit true = refl
-bit false = refl
+-- ---- a read
 
 module _ (filled : Bool) where
-  read_is : word_text index.read ++ (32 ∷ []) ++ decimal (bool_byte filled) ++ (41 ∷ []) ≡ kind_text read (cond filled 1 0)
-  unfolding kind_text word_text words text text_from
-  read_is = rw (bit filled)
+  pub filled_text : filled ≡ true → kind_text read (cond filled 1 0) ≡ text "read 1)"
+  unfolding kind_text text text_from decimal decimal_in
+  filled_text e = ap (λ (t : Bool). kind_text read (cond t 1 0)) e
 
-  module _ {line : Line} (h : Room line (kind_text read (cond filled 1 0))) where
-    read_rooms : Rooms line (word_text index.read) (32 ∷ []) (decimal (bool_byte filled)) (41 ∷ []) []
-    read_rooms = rooms_four (word_text index.read) _ (decimal _) _ (room_same (sym read_is) h)
-
-    pub read_word : Room line (word_text index.read)
-    read_word = read_rooms.first
-
-    module _ {a : Line} (p : Puts line (word_text index.read) a) where
-      pub read_space : Room a (32 ∷ [])
-      read_space = read_rooms.second p
-
-      module _ {b : Line} (q : Puts a (32 ∷ []) b) where
-        pub read_told : Room b (decimal (bool_byte filled))
-        read_told = read_rooms.third p q
-
-        pub read_close : {d : Line} → Puts b (decimal (bool_byte filled)) d → Room d (41 ∷ [])
-        read_close s = read_rooms.fourth p q s
-
-  pub read_puts : {line a b d r : Line} → Puts line (word_text index.read) a → Puts a (32 ∷ []) b
-      → Puts b (decimal (bool_byte filled)) d → Puts d (41 ∷ []) r → Puts line (kind_text read (cond filled 1 0)) r
-  read_puts p q s t = puts_same read_is (puts_then (puts_then (puts_then p q) s) t)
+  pub empty_text : filled ≡ false → kind_text read (cond filled 1 0) ≡ text "read 0)"
+  unfolding kind_text text text_from decimal decimal_in
+  empty_text e = ap (λ (t : Bool). kind_text read (cond t 1 0)) e
 
 -- ---- the end of a collect
 
@@ -104,19 +79,9 @@ module _ (a : StepAnswer) where
   as_told : (b : StepAnswer) → a ≡ b → Kind ≡ kind_text (told b).did (told b).met
   as_told b e = ap (λ (x : StepAnswer). kind_text (told x).did (told x).met) e
 
-  module _ (e : a ≡ Wrote) where
-    wrote_is : Kind ≡ word_text index.wrote ++ (41 ∷ [])
-    unfolding kind_text told word_text words text text_from
-    wrote_is = as_told Wrote e
-
-    pub wrote_word : {line : Line} → Room line Kind → Room line (word_text index.wrote)
-    wrote_word h = room_first (word_text index.wrote) (41 ∷ []) (room_same wrote_is h)
-
-    pub wrote_close : {line b : Line} → Room line Kind → Puts line (word_text index.wrote) b → Room b (41 ∷ [])
-    wrote_close h p = room_next (word_text index.wrote) (41 ∷ []) (room_same wrote_is h) p
-
-    pub wrote_puts : {line b r : Line} → Puts line (word_text index.wrote) b → Puts b (41 ∷ []) r → Puts line Kind r
-    wrote_puts p q = puts_back wrote_is (puts_then p q)
+  pub wrote_text : a ≡ Wrote → Kind ≡ text "wrote)"
+  unfolding kind_text told
+  wrote_text e = as_told Wrote e
 
   pub read_text : (filled : Bool) → a ≡ Read filled → Kind ≡ kind_text read (cond filled 1 0)
   unfolding told
@@ -127,24 +92,24 @@ module _ (a : StepAnswer) where
   refused_puts number line e = puts_back (as_told (Refused number) e) (puts_nothing line)
 
   module _ (c k : ℕ) (x : Figure) where
-    pub went_text : a ≡ Went c k x → Kind ≡ end_bytes (word_text index.went) c x k
-    unfolding kind_text told word_text words
+    pub went_text : a ≡ Went c k x → Kind ≡ end_bytes (text "went") c x k
+    unfolding kind_text told
     went_text e = as_told (Went c k x) e ∙ end_is "went" c x k
 
-    pub marked_text : a ≡ Marked c k x → Kind ≡ end_bytes (word_text index.marked) c x k
-    unfolding kind_text told word_text words
+    pub marked_text : a ≡ Marked c k x → Kind ≡ end_bytes (text "marked") c x k
+    unfolding kind_text told
     marked_text e = as_told (Marked c k x) e ∙ end_is "marked" c x k
 
-    pub adopted_text : a ≡ Adopted c k x → Kind ≡ end_bytes (word_text index.adopted) c x k
-    unfolding kind_text told word_text words
+    pub adopted_text : a ≡ Adopted c k x → Kind ≡ end_bytes (text "adopted") c x k
+    unfolding kind_text told
     adopted_text e = as_told (Adopted c k x) e ∙ end_is "adopted" c x k
 
-    pub decided_text : a ≡ Decided c k x → Kind ≡ end_bytes (word_text index.decided) c x k
-    unfolding kind_text told word_text words
+    pub decided_text : a ≡ Decided c k x → Kind ≡ end_bytes (text "decided") c x k
+    unfolding kind_text told
     decided_text e = as_told (Decided c k x) e ∙ end_is "decided" c x k
 
-    pub spent_text : a ≡ Spent c k x → Kind ≡ end_bytes (word_text index.spent) c x k
-    unfolding kind_text told word_text words
+    pub spent_text : a ≡ Spent c k x → Kind ≡ end_bytes (text "spent") c x k
+    unfolding kind_text told
     spent_text e = as_told (Spent c k x) e ∙ end_is "spent" c x k
 
 -- a text that is put as the end of a collect, with the figure z that the code passed on

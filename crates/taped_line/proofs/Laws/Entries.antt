@@ -2,7 +2,7 @@
 -- Relies on steps of a sound board; the laws of a taped line rely on it.
 use Rattle.model.proofs.Kit.{◌≡◌, refl, sym, ap, subst, ◌∙◌, Bool, true, false, cond, List, [], ◌∷◌, ◌++◌, map, none}
 use Rattle.model.proofs.Kit.{some, ℕ}
-use Rattle.model.proofs.Kit.{◌-◌, ◌+◌, ◌≤◌, eq-eqb, eqb, eqb-true, eqb-false, arith}
+use Rattle.model.proofs.Kit.{◌≤◌, eq-eqb, eqb, eqb-true, eqb-false, arith}
 use Rattle.model.specs.Figure.{Figure}
 use Rattle.model.specs.Listing.{accepted, outcome}
 use Rattle.model.specs.Filled.{Report, refusal}

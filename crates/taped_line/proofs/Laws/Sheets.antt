@@ -1,6 +1,6 @@
 -- The tape of a sheet from a line on, by the board in force there.
 -- Relies on the model's tape of lines; the algorithm's own line and the tape of a sheet rely on it.
-use Rattle.model.proofs.Kit.{◌≡◌, refl, ap, ◌∙◌, List, [], ◌∷◌, ◌++◌, ℕ, ◌+◌}
+use Rattle.model.proofs.Kit.{◌≡◌, refl, ap, ◌∙◌, List, [], ◌∷◌, ◌++◌, ℕ}
 use Rattle.model.specs.Sheet.{Played, play_line}
 use Rattle.model.specs.SheetList.{board_of}
 use Rattle.model.specs.Tape.{Entry, lines_tape}

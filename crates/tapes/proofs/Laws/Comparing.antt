@@ -1,6 +1,6 @@
 -- The comparison at each return: refusals 1 and 21, none, and the culprit's line on the first tape or on the second.
 -- Relies on the model's comparison and on the place of a line on its tape; the proofs of `comparing` rely on it.
-use Rattle.model.proofs.Kit.{◌≡◌, refl, sym, ap, subst, ◌∙◌, Bool, true, false, not, ◌&&◌, List, [], ◌∷◌, none, some}
+use Rattle.model.proofs.Kit.{◌≡◌, refl, sym, ap, ◌∙◌, Bool, true, false, not, ◌&&◌, List, some}
 use Rattle.model.proofs.Kit.{ℕ, zero, suc, ◌-◌, ◌≤◌, ◌<◌, le-leb, lt-leb, length, take, drop, length-drop, arith}
 use lib.Seq.{length-take-le}
 use borrow.Author.Tests.{not-true, not-false}

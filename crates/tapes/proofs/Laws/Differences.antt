@@ -4,7 +4,6 @@ use Rattle.model.proofs.Kit.{◌≡◌, refl, sym, ap, subst, ◌∙◌, Bool, t
 use Rattle.model.proofs.Kit.{ℕ, suc, ◌+◌, ◌-◌, ◌≤◌, ◌<◌, length, take, drop, length-drop, zero-add, arith}
 use lib.Seq.{length-take-le}
 use borrow.Author.Tests.{not-true, not-false}
-use Rattle.model.specs.Forms.{same}
 use Rattle.model.specs.Sheet.{lines_of}
 use Rattle.model.specs.Tape.{line_at, line_start, differ_from}
 use Rattle.model.proofs.Basics.Tests.{clash}
@@ -12,7 +11,7 @@ use Rattle.model.proofs.Basics.Ended.{no_parts}
 use Rattle.model.proofs.Sheet.SameTexts.{same_says}
 use Rattle.lines.specs.Ends.{LineEnd}
 use Rattle.tapes.specs.declared.difference.Gap.{Gap}
-use Rattle.tapes.specs.Differences.{Stands, DifferAt, GapIs}
+use Rattle.tapes.specs.Differences.{Stands, GapIs}
 
 -- ---- one tape
 

@@ -26,14 +26,14 @@ module _ (a b part : Bor (List ℕ)) (t : taps.Tap) (start len : ℕ) where
   width l = let w : start + len - start ≡ len = omega arith in ap (λ (k : ℕ). take k (drop start l)) w
 
   pub part_first : t ≡ tap.First → part.now ≡ take (start + len - start) (drop start a.now)
-      → part.ptr.0 ≡ a.ptr.0 → part.ptr.1 ≡ a.ptr.1 + start → PartTaken a b t start len part
+      → part.ref_ptr.0 ≡ a.ref_ptr.0 → part.ref_ptr.1 ≡ a.ref_ptr.1 + start → PartTaken a b t start len part
   unfolding tape_by tap_told
   part_first e now there place =
       subst (λ (u : taps.Tap). PartTaken a b u start len part) (sym e)
       (record { bytes = now ∙ width a.now; tape = there; place = place })
 
   pub part_second : t ≡ tap.Second → part.now ≡ take (start + len - start) (drop start b.now)
-      → part.ptr.0 ≡ b.ptr.0 → part.ptr.1 ≡ b.ptr.1 + start → PartTaken a b t start len part
+      → part.ref_ptr.0 ≡ b.ref_ptr.0 → part.ref_ptr.1 ≡ b.ref_ptr.1 + start → PartTaken a b t start len part
   unfolding tape_by tap_told
   part_second e now there place =
       subst (λ (u : taps.Tap). PartTaken a b u start len part) (sym e)
@@ -56,12 +56,12 @@ module _ (s : List ℕ) (a b part : Bor (List ℕ)) (r : Comparison) (c : Compar
       subst (PartIs a b part) (sym (ap (culprit_part a.now b.now) (sym c.answer) ∙ e))
       (record { bytes = now; tape = there; place = place ∙ omega arith })
 
-  pub part_refused : (k : ℕ) → r ≡ Refused k → part.now ≡ [] → part.ref_ptr.0 ≡ a.ptr.0 → part.ref_ptr.1 ≡ a.ptr.1
+  pub part_refused : (k : ℕ) → r ≡ Refused k → part.now ≡ [] → part.ref_ptr.0 ≡ a.ref_ptr.0 → part.ref_ptr.1 ≡ a.ref_ptr.1
       → PartIs a b part (culprit_part a.now b.now (compare s a.now b.now))
   unfolding comparison_told culprit_part
   part_refused k e = empty_part_lem (ap (λ (q : Comparison). culprit_part a.now b.now (comparison_told q)) e)
 
-  pub part_alike : r ≡ Alike → part.now ≡ [] → part.ref_ptr.0 ≡ a.ptr.0 → part.ref_ptr.1 ≡ a.ptr.1
+  pub part_alike : r ≡ Alike → part.now ≡ [] → part.ref_ptr.0 ≡ a.ref_ptr.0 → part.ref_ptr.1 ≡ a.ref_ptr.1
       → PartIs a b part (culprit_part a.now b.now (compare s a.now b.now))
   unfolding comparison_told culprit_part
   part_alike e = empty_part_lem (ap (λ (q : Comparison). culprit_part a.now b.now (comparison_told q)) e)
@@ -100,6 +100,6 @@ module _ (s : List ℕ) (a b part : Bor (List ℕ)) (r : Comparison) (c : Compar
     part_differs taken = record {
       bytes =
           taken.bytes ∙ (λ j. take (long j) (drop (starts j) (named (tap_told t) j))) ∙ stands.there;
-      tape = taken.tape ∙ ap (λ (u : Tap). (tape_by u a b).ptr.0) (sym stands.of);
-      place = taken.place ∙ (λ j. (tape_by (sym stands.of j) a b).ptr.1 + starts j);
+      tape = taken.tape ∙ ap (λ (u : Tap). (tape_by u a b).ref_ptr.0) (sym stands.of);
+      place = taken.place ∙ (λ j. (tape_by (sym stands.of j) a b).ref_ptr.1 + starts j);
     }
