@@ -1,5 +1,5 @@
-/* The settlement engine as C calls it: crates/capi, built by `rt staticlib capi` to target/staticlib/libcapi.a. The archive is
- * for x86-64 Linux; the crates are for whatever the kit compiles to.
+/* The settlement engine as C calls it: crates/capi, where `rt lib` builds out/libcapi.a. The archive is for x86-64 Linux; the
+ * crates are for whatever the kit compiles to.
  * Beside the archive a program links memcpy and memset, which every C library has.
  * The definitions of every answer are crates/packing/specs, crates/capi/specs and crates/tape_numbers/specs; each call is
  * proved to give exactly what they say.

@@ -1,10 +1,10 @@
 /* How many had written: three stations propose different figures and are halted now and then, so that each of them adopts on
  * island 0 and goes on to island 1. At the end of every collect the program says how many of its registers were filled when
  * they were read, and whose they are. That is for people to read: a station goes by the kind and the figure alone.
- * Relies on include/lufanelis.h and on the archive that `rt staticlib capi` writes; adopts.out has what it prints.
+ * Relies on include/lufanelis.h and on the archive that `rt lib` in crates/capi writes; adopts.out has what it prints.
  *
- *     rt staticlib capi
- *     cc -Iinclude -o adopts examples/c/adopts.c target/staticlib/libcapi.a && ./adopts */
+ *     (cd crates/capi && rt lib)
+ *     cc -Iinclude -o adopts examples/c/adopts.c crates/capi/out/libcapi.a && ./adopts */
 #include <inttypes.h>
 #include <stdio.h>
 

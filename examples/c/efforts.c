@@ -1,10 +1,10 @@
 /* How long each station worked: a settlement is played, and now and then the board is asked, station by station, how each one
  * stands and how many steps it has taken since its proposal. A board that was saved is asked in the same way, with nothing
  * known of it but its bytes and their number.
- * Relies on include/lufanelis.h and on the archive that `rt staticlib capi` writes; efforts.out has what it prints.
+ * Relies on include/lufanelis.h and on the archive that `rt lib` in crates/capi writes; efforts.out has what it prints.
  *
- *     rt staticlib capi
- *     cc -Iinclude -o efforts examples/c/efforts.c target/staticlib/libcapi.a && ./efforts */
+ *     (cd crates/capi && rt lib)
+ *     cc -Iinclude -o efforts examples/c/efforts.c crates/capi/out/libcapi.a && ./efforts */
 #include <inttypes.h>
 #include <stdio.h>
 

@@ -2,10 +2,10 @@
  * deciding on every island; but a board of two that was saved is tested, stepped and shown as any other, and all that is decided
  * on it is one figure. Here two stations take turns until both are spent. On a second copy one of them is left running, and both
  * settle. Last come the two calls that are refused.
- * Relies on include/lufanelis.h and on the archive that `rt staticlib capi` writes; saved.out has what it prints.
+ * Relies on include/lufanelis.h and on the archive that `rt lib` in crates/capi writes; saved.out has what it prints.
  *
- *     rt staticlib capi
- *     cc -Iinclude -o saved examples/c/saved.c target/staticlib/libcapi.a && ./saved */
+ *     (cd crates/capi && rt lib)
+ *     cc -Iinclude -o saved examples/c/saved.c crates/capi/out/libcapi.a && ./saved */
 #include <inttypes.h>
 #include <stdio.h>
 #include <string.h>

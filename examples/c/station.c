@@ -1,10 +1,10 @@
 /* Three stations settle on one figure, as their firmware would: whenever a station comes to the board it asks how it stands
  * there, and it is stepped when it is its turn, until it has decided or is spent. Here one program plays all three, in a mixed
  * order, and two of them are halted and come back with nothing but their numbers.
- * Relies on include/lufanelis.h and on the archive that `rt staticlib capi` writes; station.out has what it prints.
+ * Relies on include/lufanelis.h and on the archive that `rt lib` in crates/capi writes; station.out has what it prints.
  *
- *     rt staticlib capi
- *     cc -Iinclude -o station examples/c/station.c target/staticlib/libcapi.a && ./station */
+ *     (cd crates/capi && rt lib)
+ *     cc -Iinclude -o station examples/c/station.c crates/capi/out/libcapi.a && ./station */
 #include <inttypes.h>
 #include <stdio.h>
 

@@ -1,10 +1,10 @@
 /* Two taps on one run: each has taped every step of three stations, and the tapes do not agree. The program finds the first
  * line at which they differ, says whose fault it is by playing the run sheet once more, and prints the culprit's line. Then the
  * tapes are exchanged; the faulty line is mended; and a tape is damaged so that it can no longer be read.
- * Relies on include/lufanelis.h and on the archive that `rt staticlib capi` writes; tapes.out has what it prints.
+ * Relies on include/lufanelis.h and on the archive that `rt lib` in crates/capi writes; tapes.out has what it prints.
  *
- *     rt staticlib capi
- *     cc -Iinclude -o tapes examples/c/tapes.c target/staticlib/libcapi.a && ./tapes */
+ *     (cd crates/capi && rt lib)
+ *     cc -Iinclude -o tapes examples/c/tapes.c crates/capi/out/libcapi.a && ./tapes */
 #include <inttypes.h>
 #include <stdio.h>
 #include <string.h>

@@ -1,9 +1,9 @@
 /* A shift begins: the figures of all stations are put in with one call, all of them or none. The first list has a station twice
  * and one that the board has not, so that nothing of it is put in; the list is mended until it is taken, and then all settle.
- * Relies on include/lufanelis.h and on the archive that `rt staticlib capi` writes; together.out has what it prints.
+ * Relies on include/lufanelis.h and on the archive that `rt lib` in crates/capi writes; together.out has what it prints.
  *
- *     rt staticlib capi
- *     cc -Iinclude -o together examples/c/together.c target/staticlib/libcapi.a && ./together */
+ *     (cd crates/capi && rt lib)
+ *     cc -Iinclude -o together examples/c/together.c crates/capi/out/libcapi.a && ./together */
 #include <stdio.h>
 
 #include "lufanelis.h"

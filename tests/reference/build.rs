@@ -1,5 +1,5 @@
 //! Links the engine's archive when the feature `engine` is on.
-//! LUFANELIS_LIB names the directory or the archive itself; by default it is the project's target/staticlib.
+//! LUFANELIS_LIB names the directory or the archive itself; by default it is the project's crates/capi/out.
 
 use std::path::{Path, PathBuf};
 
@@ -9,7 +9,7 @@ fn main() {
         return;
     }
     let given = std::env::var_os("LUFANELIS_LIB").map(PathBuf::from);
-    let path = given.unwrap_or_else(|| Path::new(env!("CARGO_MANIFEST_DIR")).join("../../target/staticlib/libcapi.a"));
+    let path = given.unwrap_or_else(|| Path::new(env!("CARGO_MANIFEST_DIR")).join("../../crates/capi/out/libcapi.a"));
     let archive = if path.is_dir() { path.join("libcapi.a") } else { path };
     println!("cargo:rerun-if-changed={}", archive.display());
     let directory = archive.parent().unwrap_or(Path::new("."));
