@@ -1,9 +1,10 @@
 // The types that the definitions in specs/ and the code of the crates above share, and the numbers of phases and marks.
-// Nothing runs here.
+// Nothing runs here but the number of a refusal.
 #![tactic(auto)]
 
 pub mod marks; // the marks of a register
 pub mod phase; // the phases of a record
+pub mod refusal; // why a call is refused
 
 // A register by its fields: mark 0 (empty), 1 or 2, then island and figure.
 #[derive(Clone, Copy)]
@@ -32,6 +33,7 @@ pub struct Record {
 
 // What a step answers: "its kind and fields". A flag is 1 for adopt and 2 for commit; `filled` tells whether a read met a filled
 // register, and a total how many the collect met that ended. It stands beside the other byte, so that an answer has eight bytes.
+// A refusal is one of its kinds, with its number, as the public document has it.
 // specs/Told.antt gives the meaning of each case; contracts speak through it.
 #[derive(Clone, Copy)]
 pub enum StepAnswer {
@@ -45,25 +47,18 @@ pub enum StepAnswer {
     Refused { number: u8 },
 }
 
-// What laying, proposing and the test of a board answer: accepted, or the refusal's number.
+// What an accepted run answers: the steps taken, and the steps refused and passed over.
 #[derive(Clone, Copy)]
-pub enum Verdict {
-    Accepted,
-    Refused { number: u8 },
+pub struct Ran {
+    pub taken: u32,
+    pub passed: u32,
 }
 
-// What a run answers: the steps taken and the steps refused and passed over, or the refusal's number.
+// What an accepted call by the round answers: the rounds played, and all stations that stand decided.
 #[derive(Clone, Copy)]
-pub enum RunVerdict {
-    Ran { taken: u32, passed: u32 },
-    Refused { number: u8 },
-}
-
-// What a call by the round answers: the rounds played and all stations that stand decided, or the refusal's number.
-#[derive(Clone, Copy)]
-pub enum RoundsVerdict {
-    Played { rounds: usize, decided: u8 },
-    Refused { number: u8 },
+pub struct RoundsPlayed {
+    pub rounds: usize,
+    pub decided: u8,
 }
 
 // How a station stands: idle, or going, decided or spent with its island and the figure that it carries.
@@ -75,19 +70,11 @@ pub enum Standing {
     Spent { island: u8, figure: i32 },
 }
 
-// What the call for one station answers: how it stands and the steps it has taken, or the refusal's number.
+// What the call for one station answers: how it stands, and the steps it has taken.
 #[derive(Clone, Copy)]
-pub enum StandingAnswer {
-    Stands { standing: Standing, steps: u16 },
-    Refused { number: u8 },
-}
-
-// What `show` hands back by value: the line, zeros after it, and its length; zeros alone beside a refusal.
-#[derive(Clone, Copy)]
-pub struct ShownLine {
-    pub verdict: Verdict,
-    pub bytes: [u8; 512],
-    pub len: usize,
+pub struct Effort {
+    pub standing: Standing,
+    pub steps: u16,
 }
 
 // One of two tapes of a run.
@@ -97,18 +84,12 @@ pub enum Tap {
     Second,
 }
 
-// What the comparison of two tapes answers: no line at which they differ; or that line's number, whose line is the culprit's, and
-// the place and the length of that line on its tape; or the refusal's number.
+// Where two tapes differ: the number of the line, whose line is the culprit's, and the place and the length of that line on its
+// tape.
 #[derive(Clone, Copy)]
-pub enum Comparison {
-    Alike,
-    Differ {
-        line: usize,
-        tap: Tap,
-        start: usize,
-        len: usize,
-    },
-    Refused {
-        number: u8,
-    },
+pub struct Difference {
+    pub line: usize,
+    pub tap: Tap,
+    pub start: usize,
+    pub len: usize,
 }
