@@ -1,15 +1,14 @@
 -- Answers as numbers: the place of each part is a factor, so that the parts stand side by side in the bits.
 -- Relies on the model's answers; the contracts of the calls for C rely on it.
-use Rattle.std.specs.Prelude.{ℕ, zero, suc, ◌+◌, ◌*◌, ◌≤◌}
+use Rattle.std.specs.Prelude.{ℕ, zero, suc, ◌+◌, ◌*◌, ◌≤◌, Ok, Err}
+use Rattle.std.specs.declared.result.Result.{Result}
 use Rattle.std.proofs.Math.Option.{none, some}
 use Rattle.std.specs.Int.{w32}
 use Rattle.std.proofs.Common.{of_z}
-use Rattle.model.specs.declared.RunVerdict.{RunVerdict}
-use Rattle.model.specs.declared.RunVerdict.TheVariants.{Ran, Refused}
-use Rattle.model.specs.declared.RoundsVerdict.{RoundsVerdict}
-use Rattle.model.specs.declared.RoundsVerdict.TheVariants as byRound
-use Rattle.model.specs.declared.StandingAnswer as told
-use Rattle.model.specs.declared.StandingAnswer.TheVariants as byCall
+use Rattle.model.specs.declared.refusal.Refusal as refusals
+use Rattle.model.specs.declared.Ran.{Ran}
+use Rattle.model.specs.declared.RoundsPlayed.{RoundsPlayed}
+use Rattle.model.specs.declared.Effort.{Effort}
 use Rattle.model.specs.Figure.{Figure}
 use Rattle.model.specs.Listing.{Answer, wrote, read, went, marked, adopted, decided, spent, refused}
 use Rattle.model.specs.Filled.{Report}
@@ -51,9 +50,9 @@ unfoldable pub pack_step : Report Figure → ℕ
 pack_step r = pack_answer r.did + r.met * 16777216
 
 -- a run's counts have room in their bits
-unfoldable pub Few : RunVerdict → Type 0
-Few (Ran s t) = s + t ≤ 65536
-Few (Refused k) = Unit {0}
+unfoldable pub Few : Result Ran refusals.Refusal → Type 0
+Few (Ok r) = r.taken + r.passed ≤ 65536
+Few (Err k) = Unit {0}
 
 -- bits 0 to 7 the refusal's number, 8 to 31 the steps taken, 32 to 55 the steps passed over
 unfoldable pub pack_run : RunAnswer → ℕ
@@ -61,9 +60,9 @@ pack_run (ran s t) = s * 256 + t * 4294967296
 pack_run (not_run k) = k
 
 -- the rounds have room in their bits; so has the number of decided stations, which is a byte
-unfoldable pub FewRounds : RoundsVerdict → Type 0
-FewRounds (byRound.Played r d) = r ≤ 4294967295
-FewRounds (byRound.Refused k) = Unit {0}
+unfoldable pub FewRounds : Result RoundsPlayed refusals.Refusal → Type 0
+FewRounds (Ok r) = r.rounds ≤ 4294967295
+FewRounds (Err k) = Unit {0}
 
 -- bits 0 to 7 the refusal's number, 0 for rounds that were played, 8 to 15 the stations decided, 16 to 47 the rounds
 unfoldable pub pack_rounds : RoundsAnswer → ℕ
@@ -81,9 +80,9 @@ standing_part (stands_decided c v) = packed_standing 0 3 c (bits v)
 standing_part (stands_spent c v) = packed_standing 0 4 c (bits v)
 
 -- a station's steps have room in their bits
-unfoldable pub FewSteps : told.StandingAnswer → Type 0
-FewSteps (byCall.Stands s k) = k ≤ 4095
-FewSteps (byCall.Refused k) = Unit {0}
+unfoldable pub FewSteps : Result Effort refusals.Refusal → Type 0
+FewSteps (Ok e) = e.steps ≤ 4095
+FewSteps (Err k) = Unit {0}
 
 -- and 20 to 31 its steps
 unfoldable pub pack_standing : StandingAnswer → ℕ

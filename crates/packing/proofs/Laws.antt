@@ -1,2 +1,0 @@
--- Laws over plain variables, one subject a file.
-pub mod Packing
