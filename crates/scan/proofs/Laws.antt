@@ -1,47 +1,27 @@
--- The search so far: no mark up to a place, so that the first one stands as far behind it.
+-- The place of the first mark, and what the library's `position` says of it.
 -- Relies on the definition of the first mark; the proof of `find` relies on it.
-use Rattle.model.proofs.Kit.{◌≡◌, refl, sym, ap, ◌∙◌, List, ℕ, suc, ◌+◌, ◌≤◌, ◌<◌, length}
-use Rattle.model.proofs.Kit.{drop, get_or, drop_of_length-le, eq-eqb, ne_eqb, add-one, arith}
-use lib.Seq.{drop-cons}
+use Rattle.std.proofs.Common.{◌≡◌, refl, sym, ap, ◌∙◌, cond, not, Bool, true, false, List, ℕ, ◌≤◌, length, Some, None, nat_eq, nat_lt, arith}
+use Rattle.std.proofs.lemmas.Bool.Decides.{nat_tests}
+use Rattle.std.specs.List.{position, position_or_len}
+use Rattle.std.proofs.lemmas.List.Sums.{prefix_len-le-length}
+use Rattle.std.proofs.lemmas.List.Recursion.{is_position_or_len}
 use Rattle.scan.specs.Scan.{index_of}
 
-module _ (mark : ℕ) (s : List ℕ) (at : ℕ) where
-  -- from `at` up to `place` stands no mark
-  pub record Searched (place : ℕ) : Type 0 where
-    pub behind : at ≤ place
-    pub inside : place ≤ length s
-    pub ahead : at + index_of mark (drop at s) ≡ place + index_of mark (drop place s)
-
-  pub begun : at ≤ length s → Searched at
-  begun h = record { behind = omega arith; inside = h; ahead = refl }
-
-  here : (place : ℕ) → place < length s → get_or s place 0 ≡ mark → index_of mark (drop place s) ≡ 0
+module _ (mark : ℕ) (s : List ℕ) where
+  found : position_or_len (λ b. nat_eq b mark) s ≡ index_of mark s
   unfolding index_of
-  here place l e = rw (drop-cons s place 0 l, eq-eqb (get_or s place 0) mark e) refl
+  found = sym (is_position_or_len (index_of mark) (λ b. nat_eq b mark) refl (λ b bs. ap (cond (nat_eq b mark) 0) (omega arith)) s)
 
-  passed : (place : ℕ) → place < length s → (get_or s place 0 ≡ mark → ⊥)
-      → index_of mark (drop place s) ≡ suc (index_of mark (drop (suc place) s))
-  unfolding index_of
-  passed place l e = rw (drop-cons s place 0 l, ne_eqb (get_or s place 0) mark e) refl
+  one : (t : Bool) (m n : ℕ) → Some n ≡ cond t (Some m) None → n ≡ m
+  one true m n e = cc
+  one false m n e = cc
 
-  pub found : (place : ℕ) → Searched place → place < length s → get_or s place 0 ≡ mark
-      → place ≡ at + index_of mark (drop at s)
-  found place p l e = omega (arith, p.ahead, here place l e)
+  none : (t : Bool) (m n : ℕ) → t ≡ nat_lt m n → None ≡ cond t (Some m) None → n ≤ m
+  none true m n q e = absurd (cc)
+  none false m n q e = grind (arith, nat_tests)
 
-  pub further : (place : ℕ) → Searched place → place < length s → (get_or s place 0 ≡ mark → ⊥)
-      → Searched (place + 1)
-  further place p l e = record {
-    behind = omega (arith, p.behind);
-    inside = omega arith;
-    ahead =
-        let step : place + index_of mark (drop place s) ≡ place + 1 + index_of mark (drop (suc place) s) =
-        omega (arith, passed place l e) in
-        p.ahead ∙ step ∙ ap (λ (k : ℕ). place + 1 + index_of mark (drop k s)) (sym (add-one place));
-  }
+  pub first_found : (n : ℕ) → Some n ≡ position (λ b. nat_eq b mark) s → n ≡ index_of mark s
+  first_found n e = one _ _ n e ∙ found
 
-  ended : (place : ℕ) → length s ≤ place → index_of mark (drop place s) ≡ 0
-  unfolding index_of
-  ended place l = ap (index_of mark) (drop_of_length-le s l)
-
-  pub nowhere : (place : ℕ) → Searched place → length s ≤ place → place ≡ at + index_of mark (drop at s)
-  nowhere place p l = omega (arith, p.ahead, ended place l)
+  pub none_found : None ≡ position (λ b. nat_eq b mark) s → length s ≡ index_of mark s
+  none_found e = omega (arith, found, none _ _ _ refl e, prefix_len-le-length (λ b. not (nat_eq b mark)) s)
