@@ -1,8 +1,9 @@
 -- What each case of a declared answer says: 01's kind and values, or its refusal number.
 -- Relies on the declared types and the answers of the definitions; every contract of a call relies on it.
-use Rattle.std.specs.Prelude.{cond, ℕ, List, [], Ok, Err}
+use Rattle.std.specs.Prelude.{cond, ℕ, List, [], Ok, Err, Some, None}
+use Rattle.std.specs.declared.option.Option as options
 use Rattle.std.specs.declared.result.Result.{Result}
-use Rattle.std.proofs.Math.Option.{Option, none, some}
+use Rattle.std.proofs.Math.Option.{none, some}
 use Rattle.model.specs.declared.refusal.Refusal as refusals
 use Rattle.model.specs.declared.refusal.Refusal.TheVariants as why
 use Rattle.model.specs.declared.StepAnswer.{StepAnswer}
@@ -99,18 +100,18 @@ unfoldable pub tap_told : taps.Tap → Tap
 tap_told tap.First = first
 tap_told tap.Second = second
 
-unfoldable pub comparison_told : Result (Option Difference) refusals.Refusal → Compared
-comparison_told (Ok none) = alike
-comparison_told (Ok (some d)) = differs d.line (tap_told d.tap)
+unfoldable pub comparison_told : Result (options.Option Difference) refusals.Refusal → Compared
+comparison_told (Ok None) = alike
+comparison_told (Ok (Some d)) = differs d.line (tap_told d.tap)
 comparison_told (Err r) = not_compared (number r)
 
 -- and the place of the culprit's line on its tape, with its length; none is an empty part at the start
-unfoldable pub start_told : Result (Option Difference) refusals.Refusal → ℕ
-start_told (Ok none) = 0
-start_told (Ok (some d)) = d.start
+unfoldable pub start_told : Result (options.Option Difference) refusals.Refusal → ℕ
+start_told (Ok None) = 0
+start_told (Ok (Some d)) = d.start
 start_told (Err r) = 0
 
-unfoldable pub length_told : Result (Option Difference) refusals.Refusal → ℕ
-length_told (Ok none) = 0
-length_told (Ok (some d)) = d.len
+unfoldable pub length_told : Result (options.Option Difference) refusals.Refusal → ℕ
+length_told (Ok None) = 0
+length_told (Ok (Some d)) = d.len
 length_told (Err r) = 0
