@@ -1,4 +1,3 @@
 -- Laws over plain variables.
 pub mod Known
 pub mod Grown
-pub mod Steps

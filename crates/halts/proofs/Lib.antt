@@ -1,2 +1,2 @@
--- What the proofs of this crate's functions cite, and the laws by which its users know rounds; all of it is checked.
+-- The laws by which users of this crate know rounds; all of it is checked.
 pub mod Laws

@@ -10,6 +10,7 @@ ghost use Rattle.halts.specs.Needs.{climb, closed};
 pub const NO_BOARD: u8 = 255;
 
 // A round's stations up to `last`, and one station more: strictly rising stations need their last one.
+#[tactic(auto, unfolding(crate::specs::Needs::climb))]
 pub fn climbed(last: u8, station: u8) -> u8
     ensures { result ≡ climb last station }
 {
@@ -17,10 +18,11 @@ pub fn climbed(last: u8, station: u8) -> u8
 }
 
 // A whole round of `count` stations that climbs to `last`, where it may name `most` stations.
+#[tactic(auto, unfolding(crate::specs::Needs::closed))]
 pub fn round_needs(last: u8, count: usize, most: u8) -> u8
     ensures { result ≡ closed last count most }
 {
-    if count <= most as usize {
+    if count <= usize::from(most) {
         last
     } else {
         NO_BOARD
@@ -31,5 +33,5 @@ pub fn round_needs(last: u8, count: usize, most: u8) -> u8
 pub fn larger(a: u8, b: u8) -> u8
     ensures { result ≡ max a b }
 {
-    if a < b { b } else { a }
+    a.max(b)
 }
