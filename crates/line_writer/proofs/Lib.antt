@@ -1,5 +1,3 @@
 -- Laws that the proofs of the functions, and of those who write lines, cite.
-pub mod Putting
-pub mod Rooms
 pub mod Decimals
-pub mod Signs
+pub mod Numbers

@@ -1,2 +1,2 @@
--- The definitions that the contracts cite.
-pub mod Puts
+-- The laws that the line's model cites.
+pub mod Padded

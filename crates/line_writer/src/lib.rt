@@ -1,4 +1,4 @@
-// Lines put together piece by piece: a line by value or as lent bytes, words and numbers at its end.
+// Lines put together piece by piece: bytes, words and numbers at a line's end.
 // Relies on the model's numbers; whatever writes a line relies on it.
 #![tactic(auto)]
 
