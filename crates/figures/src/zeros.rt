@@ -1,18 +1,17 @@
-// Two, four and eight bytes that are zero.
-// Relies on words of four bytes; the tests of registers, of records and of the board's head rely on it.
+// Two, four and eight bytes that are zero: a function for each width, since a number is tested by one load, and the bytes of any
+// width only one by one. Relies on the numbers of two and of four bytes; the tests of registers, of records and of the board's
+// head rely on it.
 ghost use Rattle.std.specs.Prelude.{◌≡◌, ◌+◌, ◌≤◌, length};
 ghost use Rattle.model.specs.Bytes.{part, zeros};
 
+use crate::pairs::pair_at;
 use crate::word_at;
 
 pub fn zero_pair(s: &[u8], at: usize) -> bool
     requires { at + 2 ≤ length s.now }
     ensures { result ≡ zeros (part at 2 s.now) }
 {
-    if s[at] != 0 {
-        return false;
-    }
-    s[at + 1] == 0
+    pair_at(s, at) == 0
 }
 
 pub fn zero_word(s: &[u8], at: usize) -> bool
@@ -26,8 +25,5 @@ pub fn zero_cell(s: &[u8], at: usize) -> bool
     requires { at + 8 ≤ length s.now }
     ensures { result ≡ zeros (part at 8 s.now) }
 {
-    if !zero_word(s, at) {
-        return false;
-    }
-    zero_word(s, at + 4)
+    zero_word(s, at) && zero_word(s, at + 4)
 }

@@ -43,9 +43,11 @@ module _ (x y : Figure) (f : SFits w32 x) (g : SFits w32 y) where
   bits_same : of_z w32 x ≡ of_z w32 y → x ≡ y
   bits_same e = sym (to_z-of_z f) ∙ ap (to_z w32) e ∙ to_z-of_z g
 
-  pub above_same : of_z w32 x ≡ of_z w32 y → false ≡ above x y
+  pub above_same : of_z w32 x ≡ of_z w32 y → not (eqb (of_z w32 x) (of_z w32 y)) ≡ above x y
   unfolding figures
-  above_same e = sym (ap (above x) (sym (bits_same e)) ∙ by_size.ordered.irreflexive x)
+  above_same e =
+      ap not (eq-eqb (of_z w32 x) (of_z w32 y) e)
+      ∙ sym (ap (above x) (sym (bits_same e)) ∙ by_size.ordered.irreflexive x)
 
   pub above_differs : (of_z w32 x ≡ of_z w32 y → ⊥)
       → not (beq (lt_z (to_z w32 (of_z w32 y)) (to_z w32 (of_z w32 x)))
@@ -82,10 +84,10 @@ module _ (x y : Figure) (f : SFits w32 x) (g : SFits w32 y) where
     unfolding pair_above figures
     on_one_island k j q = simp (le-ltb j k (omega arith), eq-eqb j k q) tested
 
-pub other_island : (k j : ℕ) (y x : Figure) → (j ≡ k → ⊥) → ltb j k ≡ pair_above figures k y j x
+pub lower_island : (k j : ℕ) (y x : Figure) → j < k → ltb j k ≡ pair_above figures k y j x
 unfolding pair_above
-other_island k j y x n = elim (compared j k) [
-  | lower h ↦ simp (lt-ltb j k h)
-  | equal e ↦ absurd (n e)
-  | higher h ↦ simp (le-ltb j k (omega arith), ne_eqb j k n)
-]
+lower_island k j y x h = simp (lt-ltb j k h)
+
+pub higher_island : (k j : ℕ) (y x : Figure) → k ≤ j → (j ≡ k → ⊥) → eqb j k ≡ pair_above figures k y j x
+unfolding pair_above
+higher_island k j y x h n = simp (le-ltb j k h, ne_eqb j k n)

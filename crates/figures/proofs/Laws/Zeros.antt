@@ -1,6 +1,6 @@
 -- Lists of zeros: by their bytes, by their number, and as a figure's bytes.
 -- Relies on the laws on numbers of the crate model; the tests of zero bytes and zero fields rely on it.
-use Rattle.model.proofs.Kit.{◌≡◌, refl, sym, ap, ◌∙◌, Bool, true, false, ◌&&◌, List, [], ◌∷◌, ◌++◌, ℕ, zero, suc, ◌+◌}
+use Rattle.model.proofs.Kit.{◌≡◌, refl, sym, ap, ◌∙◌, Bool, true, false, ◌&&◌, List, [], ◌∷◌, ◌++◌, ℕ, ◌+◌}
 use Rattle.model.proofs.Kit.{◌-◌, ◌≤◌, ◌*◌, not, eq-eqb, ne_eqb, eqb, ℤ, length, w32, of_z, SFits, ℕ_discrete, add-zero}
 use Rattle.model.proofs.Kit.{arith}
 use borrow.Author.Tests.{not-true, not-false}
@@ -9,7 +9,6 @@ use Rattle.model.specs.Bytes.{byte, number, part, zeros}
 use Rattle.model.specs.Figure.{figure_bytes}
 use Rattle.model.proofs.Basics.Numbers.{number_digits}
 use Rattle.model.proofs.Basics.Parts.{listed, part_listed, part_join}
-use Rattle.model.proofs.Basics.Tests.{and_false}
 
 pub and_true : (a : Bool) → a ≡ a && true
 and_true true = refl
@@ -45,21 +44,11 @@ figure_zero v h = ap (λ (x : ℕ). eqb x 0) (sym (number_digits 4 (of_z w32 v) 
 pub word_zero : (x : ℕ) (l : List ℕ) → x ≡ number l → eqb x 0 ≡ zeros l
 word_zero x l e = ap (λ (y : ℕ). eqb y 0) e ∙ sym (zeros_number l)
 
--- one byte that is not zero
-not_zero : (l : List ℕ) (i : ℕ) → (byte l i ≡ 0 → ⊥) → false ≡ zeros l
-unfolding zeros
-not_zero [] i h = absurd (h refl)
-not_zero (x ∷ xs) zero h = ap (λ (t : Bool). t && zeros xs) (sym (ne_eqb x 0 h))
-not_zero (x ∷ xs) (suc i) h = sym (and_false (eqb x 0)) ∙ ap (λ (t : Bool). eqb x 0 && t) (not_zero xs i h)
-
 -- two bytes at a place
 module _ (b : List ℕ) (at : ℕ) (h : at + 2 ≤ length b) where
   pub pair_form : part at 2 b ≡ byte b at ∷ byte b (at + 1) ∷ []
   unfolding listed
   pair_form = part_listed at 2 b h ∙ ap (λ (x : ℕ). byte b x ∷ byte b (at + 1) ∷ []) (add-zero at)
-
-  pub pair_first : (byte b at ≡ 0 → ⊥) → false ≡ zeros (part at 2 b)
-  pair_first f = not_zero (byte b at ∷ byte b (at + 1) ∷ []) 0 f ∙ ap zeros (sym pair_form)
 
   pub pair_second : byte b at ≡ 0 → eqb (byte b (at + 1)) 0 ≡ zeros (part at 2 b)
   unfolding zeros

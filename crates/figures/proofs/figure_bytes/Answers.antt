@@ -1,4 +1,4 @@
--- `figure_bytes`: the code divides as `digits` does.
+-- `figure_bytes`: the library divides as `digits` does.
 use Rattle.figures.proofs.Laws.Signs.{figure_laid}
 use Rattle.figures.proofs.figure_bytes.Goals as goal
 

@@ -1,6 +1,8 @@
--- `pairs::pair_bytes`: the code divides as `digits` does.
-use Rattle.figures.proofs.Laws.Pairs.{pair_laid}
+-- `pairs::pair_bytes`: the library divides as `digits` does.
+use Rattle.std.proofs.Common.{rules}
+use Rattle.model.specs.Bytes.{digits}
 use Rattle.figures.proofs.pairs.pair_bytes.Goals as goal
 
 pub returns : goal.returns
-returns c = search pair_laid
+unfolding digits
+returns c = search rules
