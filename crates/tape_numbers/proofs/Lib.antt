@@ -1,2 +1,0 @@
--- Laws that the proofs of the numbers of a comparison cite.
-pub mod Laws
