@@ -1,11 +1,13 @@
 -- Where the station with a number stands on a sound board.
 -- Relies on the model's calls; the contract of place relies on it, and with it every call that names a station.
-use Rattle.std.specs.Prelude.{◌≡◌, List, ℕ, ◌+◌, ◌-◌, ◌≤◌, ◌<◌, length, get_or}
+use Rattle.std.specs.Prelude.{◌≡◌, List, ℕ, ◌+◌, ◌-◌, ◌≤◌, ◌<◌, length, get_or, Ok, Err}
 use Rattle.std.proofs.Math.Option.{some}
+use Rattle.std.specs.declared.result.Result.{Result}
+use Rattle.model.specs.declared.refusal.Refusal as refusals
+use Rattle.model.specs.declared.refusal.Refusal.TheVariants.{NoStation}
 use Rattle.model.specs.Layout.{board_length, record_at}
 use Rattle.model.specs.Calls.{Refusal, station_refusal}
 use Rattle.soundness.specs.declared.place.Place.{Place}
-use Rattle.soundness.specs.declared.place.Place.TheVariants.{At, Nowhere}
 
 -- Station number i of the board b has the index j and its record at `at`; with what the head says.
 pub record On (i : ℕ) (b : List ℕ) (j at : ℕ) : Type 0 where
@@ -20,6 +22,6 @@ pub record On (i : ℕ) (b : List ℕ) (j at : ℕ) : Type 0 where
   pub inside : at + 24 ≤ length b
 
 -- that, or refusal 12, whatever is asked later
-unfoldable pub Placed : (i : ℕ) → List ℕ → Place → Type 0
-Placed i b (At j at) = On i b j at
-Placed i b Nowhere = (later : Refusal) → station_refusal i b later ≡ some 12
+unfoldable pub Placed : (i : ℕ) → List ℕ → Result Place refusals.Refusal → Type 0
+Placed i b (Ok p) = On i b p.index p.at
+Placed i b (Err r) = (r ≡ NoStation) × ((later : Refusal) → station_refusal i b later ≡ some 12)

@@ -11,47 +11,35 @@ ghost use Rattle.model.specs.Told.{verdict};
 use crate::registers::registers_sound;
 use crate::shape::{islands_in_range, shape_refusal, stations_in_range};
 use figures::zeros::{zero_pair, zero_word};
-use model::Verdict;
+use model::refusal::Refusal;
 use record_soundness::records::records_sound;
 
 fn head_sound(s: &[u8]) -> bool
     requires { 8 ≤ length s.now }
     ensures { result ≡ head_sound s.now }
 {
-    if !zero_pair(s, 2) {
-        return false;
-    }
-    zero_word(s, 4)
+    zero_pair(s, 2) && zero_word(s, 4)
 }
 
 fn sound(board: &[u8], n: usize, k: usize) -> bool
     requires { (length board.now ≡ board_length n k) × (1 ≤ n) × (n ≤ 16) × (2 ≤ k) × (k ≤ 64) }
     ensures { result ≡ Model.sound n k board.now }
 {
-    if !head_sound(board) {
-        return false;
-    }
-    if !registers_sound(board, n, k) {
-        return false;
-    }
-    records_sound(board, n, k)
+    head_sound(board) && registers_sound(board, n, k) && records_sound(board, n, k)
 }
 
 // Any bytes of any length are answered. A shorter board has no head to read n and K from.
-pub fn check_board(board: &[u8]) -> Verdict
+pub fn check_board(board: &[u8]) -> Result<(), Refusal>
     ensures { verdict result ≡ board_refusal board.now none }
 {
     if board.len() < 8 {
-        return Verdict::Refused { number: 7 };
+        return Err(Refusal::TooShort);
     }
     let n = board[0];
     let k = board[1];
-    let number = shape_refusal(board, n, k, stations_in_range(n), islands_in_range(k));
-    if number != 0 {
-        return Verdict::Refused { number };
+    shape_refusal(board, n, k, stations_in_range(n), islands_in_range(k))?;
+    if !sound(board, usize::from(n), usize::from(k)) {
+        return Err(Refusal::Unsound);
     }
-    if !sound(board, n as usize, k as usize) {
-        return Verdict::Refused { number: 11 };
-    }
-    Verdict::Accepted
+    Ok(())
 }

@@ -6,30 +6,25 @@ ghost use Rattle.model.specs.Calls.{board_refusal};
 ghost use Rattle.soundness.specs.Placed.{Placed};
 
 use codec::places::record_offset;
-
-// The refusal of a number that no station of the board has.
-pub const NO_STATION: u8 = 12;
+use model::refusal::Refusal;
 
 #[derive(Clone, Copy)]
-pub enum Place {
-    At { index: usize, at: usize },
-    Nowhere,
+pub struct Place {
+    pub index: usize,
+    pub at: usize,
 }
 
 // On a board that is known to be sound.
-pub fn station_place(board: &[u8], station: u8) -> Place
+pub fn station_place(board: &[u8], station: u8) -> Result<Place, Refusal>
     requires { board_refusal board.now none ≡ none }
     ensures { Placed station board.now result }
 {
     let n = board[0];
     let k = board[1];
-    if station < 1 {
-        return Place::Nowhere;
+    if station < 1 || n < station {
+        return Err(Refusal::NoStation);
     }
-    if n < station {
-        return Place::Nowhere;
-    }
-    let index = station as usize - 1;
-    let at = record_offset(n as usize, k as usize, index);
-    Place::At { index, at }
+    let index = usize::from(station) - 1;
+    let at = record_offset(usize::from(n), usize::from(k), index);
+    Ok(Place { index, at })
 }

@@ -20,18 +20,9 @@ fn register_sound(s: &[u8], at: usize, marks: u8, islands: u8) -> bool
         return zero_word(s, at + 4);
     }
     if islands == 1 {
-        return word <= marks as u32;
+        return word <= u32::from(marks);
     }
-    if s[at] == 0 {
-        return false;
-    }
-    if marks < s[at] {
-        return false;
-    }
-    if islands <= s[at + 1] {
-        return false;
-    }
-    zero_pair(s, at + 2)
+    s[at] != 0 && s[at] <= marks && s[at + 1] < islands && zero_pair(s, at + 2)
 }
 
 // The n registers from start on.
@@ -39,12 +30,10 @@ fn row_sound(s: &[u8], start: usize, n: usize, marks: u8, islands: u8) -> bool
     requires { (start + 8 * n ≤ length s.now) × (n ≤ 16) }
     ensures { result ≡ every n (λ j. register_sound marks islands (part (start + 8 * j) 8 s.now)) }
 {
-    let mut j: usize = 0;
-    while j < n {
+    for j in 0..n {
         if !register_sound(s, start + 8 * j, marks, islands) {
             return false;
         }
-        j += 1;
     }
     true
 }
@@ -56,16 +45,11 @@ fn islands_sound(s: &[u8], n: usize, k: usize) -> bool
 {
     let width = 8 * n;
     let mut start = 8 + width;
-    let mut c: usize = 0;
-    while c < k {
-        if !row_sound(s, start, n, 1, 1) {
+    for _c in 0..k {
+        if !row_sound(s, start, n, 1, 1) || !row_sound(s, start + width, n, 2, 1) {
             return false;
         }
-        if !row_sound(s, start + width, n, 2, 1) {
-            return false;
-        }
-        start = start + width + width;
-        c += 1;
+        start += width + width;
     }
     true
 }
@@ -74,8 +58,5 @@ pub fn registers_sound(s: &[u8], n: usize, k: usize) -> bool
     requires { (length s.now ≡ board_length n k) × (1 ≤ n) × (n ≤ 16) × (k ≤ 64) }
     ensures { result ≡ registers_sound n k s.now }
 {
-    if !row_sound(s, 8, n, 1, k as u8) {
-        return false;
-    }
-    islands_sound(s, n, k)
+    row_sound(s, 8, n, 1, k as u8) && islands_sound(s, n, k)
 }

@@ -6,41 +6,42 @@ ghost use Rattle.model.specs.Calls.{ranges};
 ghost use Rattle.soundness.specs.Shaped.{Shaped};
 
 use codec::places::board_length;
+use model::refusal::Refusal;
 
 // Of a head, which may have two stations; a laying takes all of these but 2.
 pub fn stations_in_range(n: u8) -> bool
     ensures { result ≡ ranges.stations_in n }
 {
-    if n < 1 {
-        return false;
-    }
-    n <= 16
+    1 <= n && n <= 16
 }
 
 pub fn islands_in_range(k: u8) -> bool
     ensures { result ≡ ranges.islands_in k }
 {
-    if k < 2 {
-        return false;
-    }
-    k <= 64
+    2 <= k && k <= 64
 }
 
-// The refusal's number, or 0, which no refusal has. The caller tells whether n and K are in its ranges.
-pub fn shape_refusal(board: &[u8], n: u8, k: u8, stations: bool, islands: bool) -> u8
+// The caller tells whether n and K are in its ranges.
+pub fn shape_refusal(
+    board: &[u8],
+    n: u8,
+    k: u8,
+    stations: bool,
+    islands: bool,
+) -> Result<(), Refusal>
     ensures { Shaped n k stations islands board.now result }
 {
     if board.len() < 8 {
-        return 7;
+        return Err(Refusal::TooShort);
     }
     if !stations {
-        return 8;
+        return Err(Refusal::StationsOutOfRange);
     }
     if !islands {
-        return 9;
+        return Err(Refusal::IslandsOutOfRange);
     }
-    if board.len() != board_length(n as usize, k as usize) {
-        return 10;
+    if board.len() != board_length(usize::from(n), usize::from(k)) {
+        return Err(Refusal::WrongLength);
     }
-    0
+    Ok(())
 }

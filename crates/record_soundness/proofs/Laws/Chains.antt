@@ -12,6 +12,14 @@ pub yes : (r x : Bool) → r ≡ x → not r ≡ false → x ≡ true
 yes true x e h = sym e
 yes false x e h = absurd (let z : ◌≡◌ {A = ℕ} 0 1 = cc in omega arith)
 
+-- A chain of two, whose first test answered x, and its second r.
+module _ (a b x : Bool) (e : x ≡ a) where
+  pub and_then : x ≡ true → (r : Bool) → r ≡ b → r ≡ a && b
+  and_then h r q = q ∙ sym (ap (λ (t : Bool). t && b) (sym e ∙ h))
+
+  pub and_else : x ≡ false → x ≡ a && b
+  and_else h = h ∙ sym (ap (λ (t : Bool). t && b) (sym e ∙ h))
+
 -- A chain of five tests, up to the first that fails; a shorter chain begins with `true`.
 module _ (a b c d e : Bool) where
   pub fail1 : a ≡ false → false ≡ a && b && c && d && e

@@ -1,14 +1,13 @@
 -- A register by the tests that the code makes, and the board's head.
 -- Relies on Zeros and on codec's laws of parts; the proofs of registers and of head_sound rely on it.
-use Rattle.model.proofs.Kit.{◌≡◌, refl, sym, ap, ◌∙◌, Bool, true, false, ◌&&◌, not, List, ℕ, suc, ◌+◌, ◌-◌, ◌≤◌, ◌<◌}
-use Rattle.model.proofs.Kit.{◌*◌, le-leb, lt-leb, lt-ltb, le-ltb, eq-eqb, ne_eqb, eqb, leb, ltb, le→leb, leb→le, lit<}
+use Rattle.model.proofs.Kit.{◌≡◌, refl, sym, ap, ◌∙◌, Bool, false, ◌&&◌, not, List, ℕ, suc, ◌+◌, ◌-◌, ◌≤◌, ◌<◌}
+use Rattle.model.proofs.Kit.{◌*◌, lt-leb, eq-eqb, ne_eqb, eqb, leb, ltb, le→leb, leb→le, lit<}
 use Rattle.model.proofs.Kit.{T, lit≤, ltb→lt, lt→ltb, length, ℕ_discrete, add-zero, arith}
 use native.Mathlib.Nat.{mul-zero, mul-one, mul-suc}
-use borrow.Author.Tests.{not-true, not-false}
 use Rattle.model.specs.Bytes.{byte, number, part, zeros, every}
 use Rattle.model.specs.Listing.{Array, in_m, in_a, in_b}
 use Rattle.model.specs.Layout.{board_length, row_of, register_at}
-use Rattle.model.specs.Sound.{register_sound, head_sound, array_sound, registers_sound}
+use Rattle.model.specs.Sound.{register_sound, head_sound, array_sound}
 use Rattle.model.proofs.Basics.Tests.{and_l, and_r, and_i, true-T, both}
 use Rattle.model.proofs.Basics.Parts.{zero_at_lem}
 use Rattle.model.proofs.Board.Places.{InBoard, register_fits}
@@ -17,18 +16,6 @@ use Rattle.figures.proofs.Laws.Zeros.{zeros_join, word_zero, pair_second}
 use Rattle.codec.proofs.Laws.Reads.{part_part, first_byte, byte_at}
 use Rattle.record_soundness.proofs.Laws.Chains.{cond_yes, cond_no}
 
--- ---- tests one after another, as the code makes them
-module _ (a b c x : Bool) (ex : x ≡ a) where
-  pub first_fails : not x ≡ true → false ≡ a && b && c
-  first_fails h = sym (λ q. (sym ex ∙ not-true x h) q && b && c)
-
-  module _ (h : not x ≡ false) (y : Bool) (ey : y ≡ b) where
-    pub second_fails : not y ≡ true → false ≡ a && b && c
-    second_fails k = sym (λ q. (sym ex ∙ not-false x h) q && (sym ey ∙ not-true y k) q && c)
-
-    pub third_decides : not y ≡ false → (z : Bool) → z ≡ c → z ≡ a && b && c
-    third_decides k z e = e ∙ sym (λ q. (sym ex ∙ not-false x h) q && (sym ey ∙ not-false y k) q && c)
-
 module _ (marks islands : ℕ) (b : List ℕ) (at : ℕ) (h : at + 8 ≤ length b) where
   mark : byte b at ≡ byte (part at 8 b) 0
   mark = first_byte at 8 b (lit< tt)
@@ -36,7 +23,7 @@ module _ (marks islands : ℕ) (b : List ℕ) (at : ℕ) (h : at + 8 ≤ length 
   filled : Bool
   filled = leb (byte (part at 8 b) 0) marks && ltb (byte (part at 8 b) 1) islands && zeros (part 2 2 (part at 8 b))
 
-  pub register_empty : byte b at ≡ 0
+  register_empty : byte b at ≡ 0
       → zeros (part at 4 b) && zeros (part (at + 4) 4 b) ≡ register_sound marks islands (part at 8 b)
   unfolding register_sound filled
   register_empty e =
@@ -44,7 +31,7 @@ module _ (marks islands : ℕ) (b : List ℕ) (at : ℕ) (h : at + 8 ≤ length 
       ∙ cond_yes (eqb (byte (part at 8 b) 0) 0) (zeros (part at 8 b)) filled
       (eq-eqb (byte (part at 8 b) 0) 0 (sym mark ∙ e))
 
-  pub register_filled : (byte b at ≡ 0 → ⊥)
+  register_filled : (byte b at ≡ 0 → ⊥)
       → leb (byte b at) marks && ltb (byte b (at + 1)) islands && zeros (part (at + 2) 2 b)
       ≡ register_sound marks islands (part at 8 b)
   unfolding register_sound filled
@@ -53,25 +40,6 @@ module _ (marks islands : ℕ) (b : List ℕ) (at : ℕ) (h : at + 8 ≤ length 
       (part_part at 8 2 2 b h (lit≤ tt) i))
       ∙ cond_no (eqb (byte (part at 8 b) 0) 0) (zeros (part at 8 b)) filled
       (ne_eqb (byte (part at 8 b) 0) 0 (λ e. f (mark ∙ e)))
-
-  module _ (f : byte b at ≡ 0 → ⊥) where
-    pub mark_high : marks < byte b at → false ≡ register_sound marks islands (part at 8 b)
-    mark_high l =
-        sym (λ q. lt-leb (byte b at) marks l q && ltb (byte b (at + 1)) islands && zeros (part (at + 2) 2 b))
-        ∙ register_filled f
-
-    module _ (m : byte b at ≤ marks) where
-      pub island_high : islands ≤ byte b (at + 1) → false ≡ register_sound marks islands (part at 8 b)
-      island_high l =
-          sym (λ q. le-leb (byte b at) marks m q && le-ltb (byte b (at + 1)) islands l q && zeros (part (at + 2) 2 b))
-          ∙ register_filled f
-
-      pub rest_decides : byte b (at + 1) < islands → (z : Bool) → z ≡ zeros (part (at + 2) 2 b)
-          → z ≡ register_sound marks islands (part at 8 b)
-      rest_decides l z e =
-          e ∙ sym (λ q. le-leb (byte b at) marks m q && lt-ltb (byte b (at + 1)) islands l q && zeros
-          (part (at + 2) 2 b))
-          ∙ register_filled f
 
   -- the first four bytes as one number
   module _ (word : ℕ) (e : word ≡ number (part at 4 b)) where
@@ -90,10 +58,23 @@ module _ (marks islands : ℕ) (b : List ℕ) (at : ℕ) (h : at + 8 ≤ length 
         ∙ register_empty (omega (arith, its_bytes))
 
     -- a register whose mark is zero and whose island or zeros are not
-    pub word_stray : (word ≡ 0 → ⊥) → byte b at ≡ 0 → false ≡ register_sound marks islands (part at 8 b)
+    word_stray : (word ≡ 0 → ⊥) → byte b at ≡ 0 → false ≡ register_sound marks islands (part at 8 b)
     word_stray f z =
         ap (λ (t : Bool). t && zeros (part (at + 4) 4 b)) (sym (ne_eqb word 0 f) ∙ word_zero word (part at 4 b) e)
         ∙ register_empty z
+
+    -- the tests of the three bytes one after another, with the mark's own first
+    pub by_bytes : (word ≡ 0 → ⊥)
+        → not (eqb (byte b at) 0) && leb (byte b at) marks && ltb (byte b (at + 1)) islands && zeros (part (at + 2) 2 b)
+        ≡ register_sound marks islands (part at 8 b)
+    by_bytes f = go (ℕ_discrete (byte b at) 0)
+      where
+        tests : Bool → Bool
+        tests t = not t && leb (byte b at) marks && ltb (byte b (at + 1)) islands && zeros (part (at + 2) 2 b)
+
+        go : Dec (byte b at ≡ 0) → tests (eqb (byte b at) 0) ≡ register_sound marks islands (part at 8 b)
+        go (yes z) = ap tests (eq-eqb (byte b at) 0 z) ∙ word_stray f z
+        go (no g) = ap tests (ne_eqb (byte b at) 0 g) ∙ register_filled g
 
     -- a filled register whose island is zero is its mark
     module _ (small : marks ≤ 255) (one : islands ≡ 1) (f : word ≡ 0 → ⊥) where
@@ -142,16 +123,9 @@ module _ (marks islands : ℕ) (b : List ℕ) (at : ℕ) (h : at + 8 ≤ length 
           go (no g) = both (leb word marks) (low && inside && rest) forth back ∙ register_filled g
 
 -- the head's six zeros are two and four
-module _ (b : List ℕ) (x : Bool) (ex : x ≡ zeros (part 2 2 b)) where
-  head_form : zeros (part 2 2 b) && zeros (part 4 4 b) ≡ head_sound b
-  unfolding head_sound
-  head_form = sym (zeros_join b 2 2 4)
-
-  pub pair_fails : not x ≡ true → false ≡ head_sound b
-  pair_fails h = sym (λ q. (sym ex ∙ not-true x h) q && zeros (part 4 4 b)) ∙ head_form
-
-  pub word_decides : not x ≡ false → (y : Bool) → y ≡ zeros (part 4 4 b) → y ≡ head_sound b
-  word_decides h y ey = ey ∙ sym (λ q. (sym ex ∙ not-false x h) q && zeros (part 4 4 b)) ∙ head_form
+pub head_form : (b : List ℕ) → zeros (part 2 2 b) && zeros (part 4 4 b) ≡ head_sound b
+unfolding head_sound
+head_form b = sym (zeros_join b 2 2 4)
 
 -- ---- rows of n registers
 -- one row after another
@@ -189,21 +163,8 @@ row_m : (n : ℕ) → 8 ≡ register_at n in_m 0
 unfolding register_at row_of
 row_m n = omega (arith, mul-zero n)
 
-array_m : (n k : ℕ) (b : List ℕ) → every n (λ j. register_sound 1 k (part (8 + 8 * j) 8 b)) ≡ array_sound n 1 k b in_m
+pub array_m : (n k : ℕ) (b : List ℕ) → every n (λ j. register_sound 1 k (part (8 + 8 * j) 8 b)) ≡ array_sound n 1 k b in_m
 array_m n k b = row_is n 1 k b in_m 8 (row_m n)
-
-module _ (n k : ℕ) (b : List ℕ) (x : Bool) (ex : x ≡ every n (λ j. register_sound 1 k (part (8 + 8 * j) 8 b))) where
-  rows : Bool
-  rows = every k (λ c. array_sound n 1 1 b (in_a c) && array_sound n 2 1 b (in_b c))
-
-  pub m_fails : not x ≡ true → false ≡ registers_sound n k b
-  unfolding registers_sound rows
-  m_fails h = sym (λ q. (sym (ex ∙ array_m n k b) ∙ not-true x h) q && rows)
-
-  pub islands_decide : not x ≡ false → (y : Bool)
-      → y ≡ every k (λ c. array_sound n 1 1 b (in_a c) && array_sound n 2 1 b (in_b c)) → y ≡ registers_sound n k b
-  unfolding registers_sound rows
-  islands_decide h y ey = ey ∙ sym (λ q. (sym (ex ∙ array_m n k b) ∙ not-false x h) q && rows)
 
 -- the rows of island c, A from `start` on and B after it
 pub record Rows (n k c start : ℕ) (b : List ℕ) : Type 0 where

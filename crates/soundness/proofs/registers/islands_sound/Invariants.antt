@@ -1,6 +1,6 @@
 -- `islands_sound`: the invariant is that both rows of every island before c passed, and that start is where row A of c
 -- begins.
-use Rattle.model.proofs.Kit.{◌≡◌, true, ◌&&◌, ◌-◌, ◌≤◌}
+use Rattle.model.proofs.Kit.{◌≡◌, true, ◌&&◌}
 use Rattle.model.specs.Bytes.{every}
 use Rattle.model.specs.Layout.{register_at}
 use Rattle.model.specs.Listing.{in_a, in_b}
@@ -9,8 +9,5 @@ use Rattle.soundness.proofs.registers.islands_sound.Given as goal
 
 abbrev pub invariant-loop-c : goal.invariant-loop-c
 invariant-loop-c l =
-    (l.c ≤ l.k) × (l.start ≡ register_at l.n (in_a l.c) 0)
-    × (every l.c (λ i. array_sound l.n 1 1 l.s (in_a i) && array_sound l.n 2 1 l.s (in_b i)) ≡ true)
-
-abbrev pub decreases-loop-c : goal.decreases-loop-c
-decreases-loop-c l = l.k - l.c
+    (l.start ≡ register_at l.n (in_a l._c) 0)
+    × (every l._c (λ i. array_sound l.n 1 1 l.s (in_a i) && array_sound l.n 2 1 l.s (in_b i)) ≡ true)

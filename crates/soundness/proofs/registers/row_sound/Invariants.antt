@@ -1,12 +1,9 @@
 -- `row_sound`: the invariant is that every register before the j-th passed.
-use Rattle.model.proofs.Kit.{◌≡◌, true, ◌+◌, ◌-◌, ◌≤◌, ◌*◌}
+use Rattle.model.proofs.Kit.{◌≡◌, true, ◌+◌, ◌*◌}
 use Rattle.model.specs.Bytes.{every, part}
 use Rattle.model.specs.Sound.{register_sound}
 use Rattle.soundness.proofs.registers.row_sound.Given as goal
 
 abbrev pub invariant-loop-j : goal.invariant-loop-j
 invariant-loop-j l =
-    (l.j ≤ l.n) × (every l.j (λ i. register_sound l.marks l.islands (part (l.start + 8 * i) 8 l.s)) ≡ true)
-
-abbrev pub decreases-loop-j : goal.decreases-loop-j
-decreases-loop-j l = l.n - l.j
+    every l.j (λ i. register_sound l.marks l.islands (part (l.start + 8 * i) 8 l.s)) ≡ true

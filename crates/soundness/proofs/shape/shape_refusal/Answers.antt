@@ -1,4 +1,6 @@
 -- `shape_refusal`: each return is its refusal, where the tests before it passed.
+use Rattle.model.proofs.Kit.{◌∙◌}
+use Rattle.model.specs.Layout.{board_length}
 use Rattle.soundness.proofs.Laws.Verdicts.{seven, eight, nine, ten, shaped}
 use Rattle.soundness.proofs.shape.shape_refusal.Goals as goal
 
@@ -12,7 +14,11 @@ pub returns-then-not-islands : goal.returns-then-not-islands
 returns-then-not-islands c = search nine
 
 pub returns : goal.returns
-returns c = search shaped
+returns c =
+    shaped _ _ _ _ _ (search) (search) (search) _ (c.board_length.ensures ∙ (λ i. board_length (c.from.ensures i) (c.from-2.ensures i)))
+    (search)
 
 pub returns-then-board-board_length : goal.returns-then-board-board_length
-returns-then-board-board_length c = search ten
+returns-then-board-board_length c =
+    ten _ _ _ _ _ (search) (search) (search) _ (c.board_length.ensures ∙ (λ i. board_length (c.from.ensures i) (c.from-2.ensures i)))
+    (search)

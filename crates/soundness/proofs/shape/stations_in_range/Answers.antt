@@ -1,12 +1,13 @@
--- `stations_in_range`: below the range, or up to its end.
+-- `stations_in_range`: from the range's start, and up to its end.
+use Rattle.std.proofs.Common.{arith}
+use Rattle.std.proofs.lemmas.Grind.{common_steps}
 use Rattle.model.specs.Calls.{ranges}
-use Rattle.soundness.proofs.Laws.Verdicts.{below_range, up_to}
 use Rattle.soundness.proofs.shape.stations_in_range.Goals as goal
 
-pub returns-then-n-lt1 : goal.returns-then-n-lt1
+pub returns-then-n-ge1 : goal.returns-then-n-ge1
 unfolding ranges
-returns-then-n-lt1 c = search below_range
+returns-then-n-ge1 c = grind (arith, common_steps)
 
-pub returns : goal.returns
+pub returns-else-n-ge1 : goal.returns-else-n-ge1
 unfolding ranges
-returns c = search up_to
+returns-else-n-ge1 c = grind (arith, common_steps)
