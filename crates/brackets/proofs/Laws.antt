@@ -1,3 +1,2 @@
 -- Laws of brackets, by subject.
 pub mod Depth
-pub mod Opening

@@ -14,9 +14,7 @@ pub fn too_deep(line: &[u8]) -> bool
 {
     let mut opened: u32 = 0;
     let mut closed: u32 = 0;
-    let mut i = 0;
-    while i < line.len() {
-        let byte = line[i];
+    for &byte in line {
         if byte == b'(' {
             opened += 1;
         }
@@ -26,31 +24,22 @@ pub fn too_deep(line: &[u8]) -> bool
         if closed + 8 < opened {
             return true;
         }
-        i += 1;
     }
     false
 }
 
 // Whether the line ends with a bracket at `at`.
+#[tactic(auto, unfolding(model::specs::Forms::same, model::specs::Show::text, model::specs::Show::text_from))]
 pub fn closes(line: &[u8], at: usize) -> bool
     requires { at ≤ length line.now }
     ensures { result ≡ same (drop at line.now) (text ")") }
 {
-    if line.len() - at != 1 {
-        return false;
-    }
-    line[at] == b')'
+    &line[at..] == b")".as_slice()
 }
 
 // Whether a bracket stands behind the byte at `at`, as it does where pairs follow the word.
 pub fn opens_pair(line: &[u8], at: usize) -> bool
     ensures { result ≡ eqb (byte (drop at line.now) 1) 40 }
 {
-    if line.len() <= at {
-        return false;
-    }
-    if line.len() <= at + 1 {
-        return false;
-    }
-    line[at + 1] == b'('
+    matches!(line.get(at..), Some([_, b'(', ..]))
 }

@@ -1,14 +1,10 @@
--- Brackets: the depth of the bytes passed, and the one that closes a line.
--- Relies on the model's depth and forms; the proofs of `too_deep` and `closes` rely on it.
-use Rattle.model.proofs.Kit.{◌≡◌, refl, sym, ap, ◌∙◌, Bool, true, false, cond, ◌&&◌, ◌||◌, List, [], ◌∷◌, ℕ, suc, ◌+◌}
-use Rattle.model.proofs.Kit.{◌-◌, ◌≤◌, ◌<◌, lt-ltb, le-ltb, eq-eqb, ne_eqb, eqb, ltb, length, drop, length-drop}
+-- Brackets: the depth of the bytes passed.
+-- Relies on the model's depth; the proof of `too_deep` relies on it.
+use Rattle.model.proofs.Kit.{◌≡◌, refl, sym, ap, ◌∙◌, Bool, true, false, cond, ◌||◌, List, ℕ, suc, ◌+◌}
+use Rattle.model.proofs.Kit.{◌≤◌, ◌<◌, lt-ltb, le-ltb, eq-eqb, ne_eqb, eqb, ltb, length, drop}
 use Rattle.model.proofs.Kit.{drop_of_length-le, get_or, add-one, arith}
 use lib.Seq.{drop-cons}
-use Rattle.model.proofs.Basics.Tests.{and_false}
-use Rattle.model.specs.Forms.{same, one, too_deep}
-use Rattle.model.specs.Show.{text, text_from}
-
--- ---- the depth
+use Rattle.model.specs.Forms.{one, too_deep}
 
 pub one_more : (asked b x y : ℕ) → b ≡ asked → y ≡ x + 1 → y ≡ x + one asked b
 unfolding one
@@ -67,28 +63,3 @@ module _ (line : List ℕ) (o c i o' c' : ℕ) (p : Passed line o c i) (h : i < 
 pub all_passed : (line : List ℕ) (o c i : ℕ) → Passed line o c i → length line ≤ i → false ≡ too_deep 0 0 line
 unfolding too_deep
 all_passed line o c i p h = sym (ap (λ (l : List ℕ). too_deep o c l) (drop_of_length-le line h)) ∙ p.rest
-
--- ---- the closing bracket
-
-and_true : (t : Bool) → t && true ≡ t
-and_true true = refl
-and_true false = refl
-
-not_one : (l : List ℕ) → (length l ≡ 1 → ⊥) → false ≡ same l (text ")")
-unfolding same text text_from
-not_one [] h = refl
-not_one (x ∷ []) h = absurd (h refl)
-not_one (x ∷ y ∷ l) h = sym (and_false (eqb x 41))
-
-pub not_last : (line : List ℕ) (at : ℕ) → (length line - at ≡ 1 → ⊥) → false ≡ same (drop at line) (text ")")
-not_last line at h = not_one (drop at line) (λ e. h (sym (length-drop at line) ∙ e))
-
-pub last : (line : List ℕ) (at : ℕ) → at ≤ length line → length line - at ≡ 1
-    → eqb (get_or line at 0) 41 ≡ same (drop at line) (text ")")
-unfolding same text text_from
-last line at h e =
-    let short : length line ≤ suc at = omega arith in
-    sym
-    (ap (λ (l : List ℕ). same l (text ")")) (drop-cons line at 0 (omega arith))
-    ∙ ap (λ (l : List ℕ). eqb (get_or line at 0) 41 && same l []) (drop_of_length-le line short)
-    ∙ and_true (eqb (get_or line at 0) 41))
