@@ -1,19 +1,15 @@
 -- What a caller of the crate needs beside its contracts: how long a status and the line of `show` can be, and how the
 -- line of `show` is made of statuses.
 -- Relies on Decimals and Statuses; the call that shows a board relies on it.
-use Rattle.model.proofs.Kit.{◌≡◌, ap, List, ◌++◌, append_assoc, none, ℕ, zero, suc, ◌≤◌, ◌<◌, ◌*◌, length}
+use Rattle.model.proofs.Kit.{◌≡◌, ap, List, ◌++◌, append_assoc, ℕ, zero, suc, ◌≤◌, ◌<◌, ◌*◌, length}
 use Rattle.model.proofs.Kit.{length-append, arith}
-use Rattle.model.specs.declared.Verdict.TheVariants.{Accepted}
 use Rattle.model.specs.Figure.{Figure}
 use Rattle.model.specs.Listing.{writing, reading, has_decided, is_spent, Station, idle, active}
 use Rattle.model.specs.Layout.{station_of}
 use Rattle.model.specs.Standing.{standing_of}
-use Rattle.model.specs.Show.{text, text_from, worded, standing_text, status, statuses, shown_line, shown_as}
+use Rattle.model.specs.Show.{text, text_from, worded, standing_text, status, statuses, shown_line}
 use Rattle.model.specs.Calls.{stations, islands}
-use Rattle.model.specs.Told.{verdict, shown_told}
 use Rattle.model.proofs.Board.Good.{GoodStation, GoodStage}
-use Rattle.line_writer.specs.declared.line.Line.{Line}
-use Rattle.line_writer.specs.Puts.{Holds}
 use Rattle.shown.specs.Texts.{status_of, standing_bytes, island_shown}
 use Rattle.line_writer.proofs.Decimals.{length_two, length_signed}
 use Rattle.shown.proofs.Statuses.{length_standing, length_status}
@@ -89,9 +85,3 @@ pub line_bound : (b : List ℕ) → stations b ≤ 16
 unfolding shown_line text text_from
 line_bound b h f =
     simp length-append (omega (arith, statuses_bound (stations b) (stations b) (islands b) b (omega arith) f))
-
--- what is handed back with a line is what `show` says
-pub shown_is : (line : Line) (l : List ℕ) → Holds line l
-    → shown_told (record { verdict = Accepted; bytes = line.bytes; len = line.len }) ≡ shown_as none l
-unfolding shown_told verdict shown_as
-shown_is line l h = λ i. record { refusal = none; line = h.bytes i; len = h.len i }

@@ -1,5 +1,5 @@
 -- How a station stands, as the code tells it at each phase.
--- Relies on the model's standing by phase; the proof of `standing_of` relies on it.
+-- Relies on the model's standing by phase; `standing_of` cites it.
 use Rattle.model.proofs.Kit.{◌≡◌, sym, ap, ◌∙◌, ◌≤◌, ◌<◌}
 use Rattle.model.specs.declared.Record.{Record}
 use Rattle.model.specs.declared.Standing.TheVariants.{Idle, Going, Decided, Spent}
@@ -29,3 +29,5 @@ module _ (f : Record) where
       → standing_told (Spent f.island z) ≡ standing_of (record_value f)
   unfolding standing_told
   spent_told z l h n = ap (stands_spent f.island) l ∙ sym (spent_stands f h n)
+
+pub ruleset by_phase = (idle_told, going_told, decided_told, spent_told)

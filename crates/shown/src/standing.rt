@@ -6,23 +6,20 @@ ghost use Rattle.model.specs.Layout.{record_value};
 ghost use Rattle.model.specs.Standing.{standing_of};
 ghost use Rattle.model.specs.Told.{standing_told};
 
-use model::phase::{DECIDED, IDLE};
+use model::phase::{DECIDED, IDLE, READ_B, WRITE_M};
 use model::{Record, Standing};
 
 // "phases 1 to 6 are going"
+#[tactic(auto, using(crate::proofs::Standings::by_phase))]
 pub fn standing_of(station: Record) -> Standing
     ensures { standing_told result ≡ standing_of (record_value station) }
 {
     let island = station.island;
     let figure = station.carried;
-    if station.phase == IDLE {
-        return Standing::Idle;
+    match station.phase {
+        IDLE => Standing::Idle,
+        WRITE_M..=READ_B => Standing::Going { island, figure },
+        DECIDED => Standing::Decided { island, figure },
+        _ => Standing::Spent { island, figure },
     }
-    if station.phase < DECIDED {
-        return Standing::Going { island, figure };
-    }
-    if station.phase == DECIDED {
-        return Standing::Decided { island, figure };
-    }
-    Standing::Spent { island, figure }
 }
