@@ -3,10 +3,10 @@
 // Relies on the comparison for everything but reading and writing.
 #![tactic(auto)]
 
-ghost use Rattle.std.specs.Prelude.{◌≤◌, length};
+ghost use Rattle.std.specs.Prelude.{◌≤◌, length, IfOk};
 
 use answer_writer::refused_line;
-use input::{Input, read_all};
+use input::read_all;
 use model::{Comparison, Tap};
 use std::env::{Env, FillError};
 use std::fmt::InlineText;
@@ -26,17 +26,11 @@ fn open<R: Files>(rt: &R, name: &[u8]) -> io::Result<R::File> {
     }
 }
 
-fn read_named<R: Files>(rt: &R, name: &[u8], buffer: &mut [u8]) -> Input
-    ensures { result.len ≤ length buffer.new }
+fn read_named<R: Files>(rt: &R, name: &[u8], buffer: &mut [u8]) -> io::Result<usize>
+    ensures { IfOk result (λ len. len ≤ length buffer.new) }
 {
-    match open(rt, name) {
-        Ok(mut file) => read_all(&mut file, buffer),
-        Err(error) => Input {
-            len: 0,
-            whole: false,
-            error: Some(error),
-        },
-    }
+    let mut file = open(rt, name)?;
+    read_all(&mut file, buffer).map_err(|part| part.error)
 }
 
 // A line with the name and the system's words for the error, without its number behind them.
@@ -60,16 +54,16 @@ fn read_file<R: Env + Files, E: Print>(
     errors: &E,
     number: usize,
     buffer: &mut [u8],
-) -> Input
-    ensures { result.len ≤ length buffer.new }
+) -> io::Result<usize>
+    ensures { IfOk result (λ len. len ≤ length buffer.new) }
 {
     let mut name = [0u8; 4096];
     let count = rt.arg(number, &mut name).unwrap_or(0);
-    let input = read_named(rt, &name[..count], buffer);
-    if let Some(error) = input.error {
+    let read = read_named(rt, &name[..count], buffer);
+    if let Err(error) = read {
         let _ = complain(errors, &name[..count], error);
     }
-    input
+    read
 }
 
 fn print_refusal<P: Print>(rt: &P, number: u8) -> io::Result<()> {
@@ -115,29 +109,23 @@ fn main(rt: HostRuntime) {
     let mut sheet = [0u8; 32769];
     let mut first = [0u8; 98305];
     let mut second = [0u8; 98305];
-    let run = read_file(&rt, &errors, 1, &mut sheet);
-    if !run.whole {
+    let Ok(end) = read_file(&rt, &errors, 1, &mut sheet) else {
         return;
-    }
-    let one = read_file(&rt, &errors, 2, &mut first);
-    if !one.whole {
+    };
+    let Ok(first_end) = read_file(&rt, &errors, 2, &mut first) else {
         return;
-    }
-    let other = read_file(&rt, &errors, 3, &mut second);
-    if !other.whole {
+    };
+    let Ok(second_end) = read_file(&rt, &errors, 3, &mut second) else {
         return;
-    }
-    if 98304 < one.len {
+    };
+    if 98304 < first_end {
         let _ = errors.write_all(b"the first tape is too long\n");
         return;
     }
-    if 98304 < other.len {
+    if 98304 < second_end {
         let _ = errors.write_all(b"the second tape is too long\n");
         return;
     }
-    let end = run.len;
-    let first_end = one.len;
-    let second_end = other.len;
     let _ = print_answer(
         &rt,
         &sheet[..end],

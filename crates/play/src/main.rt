@@ -8,11 +8,9 @@ use input::read_all;
 // The buffer holds one byte more than the longest sheet that is played. A failed read or write ends the program with no word.
 fn main(rt: HostRuntime) {
     let mut sheet = [0u8; 32769];
-    let input = read_all(&mut rt.stdin(), &mut sheet);
-    if !input.whole {
+    let Ok(len) = read_all(&mut rt.stdin(), &mut sheet) else {
         return;
-    }
-    let len = input.len;
+    };
     let mut memory = [0u8; 16904];
     let mut at = 0;
     let mut laid = 0;

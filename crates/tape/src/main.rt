@@ -10,11 +10,9 @@ use taped_sheet::next_part;
 // A failed read or write ends the program with no word.
 fn main(rt: HostRuntime) {
     let mut sheet = [0u8; 32769];
-    let input = read_all(&mut rt.stdin(), &mut sheet);
-    if !input.whole {
+    let Ok(len) = read_all(&mut rt.stdin(), &mut sheet) else {
         return;
-    }
-    let len = input.len;
+    };
     let mut memory = [0u8; 16904];
     if 32768 < len {
         let answer = next_answer(&sheet[..len], 0, 0, &mut memory);

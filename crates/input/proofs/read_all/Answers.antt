@@ -19,11 +19,11 @@ slice_range-put_mid a k n xs ys within fits =
     let after = post_of a k xs in
     ap (take ((a + n) - a)) (drop_at (take a xs) (ys ++ after) a (length-take-le a xs within)) ∙ ap (λ m. take m (ys ++ after)) same ∙ take-append-le n ys after fits
 
-pub loop-done-preserved : goal.loop-done-preserved
-loop-done-preserved g c =
-    let from = c.loop-done.done in
-    let room = length c.loop-done.buffer - from in
-    let within = c.loop-done.invariant.1 in
-    let part = slice_range-put_mid from room c.in-Ok.more c.loop-done.buffer c.read.new.buf within c.in-Ok.ensures.bound.0 in
-    let joined = take_split from (from + c.in-Ok.more) c.loop-done.buffer (put_mid from room c.loop-done.buffer c.read.new.buf) (omega arith) (take-put_mid_below _ _ _ _ _ (le_refl _) within) in
-    (search rules, search rules, subst (Consumes _ _) (ap (λ l. take from c.loop-done.buffer ++ l) (sym part) ∙ joined) (Consumes-trans _ _ _ _ _ c.loop-done.invariant.2 c.in-Ok.ensures.bytes.0))
+pub loop-len-preserved : goal.loop-len-preserved
+loop-len-preserved g c =
+    let from = c.loop-len.len in
+    let room = length c.loop-len.buffer - from in
+    let within = c.loop-len.invariant.1 in
+    let part = slice_range-put_mid from room c.in-Ok.more c.loop-len.buffer c.read.new.buf within c.in-Ok.ensures.bound.0 in
+    let joined = take_split from (from + c.in-Ok.more) c.loop-len.buffer (put_mid from room c.loop-len.buffer c.read.new.buf) (omega arith) (take-put_mid_below _ _ _ _ _ (le_refl _) within) in
+    (search rules, search rules, subst (Consumes _ _) (ap (λ l. take from c.loop-len.buffer ++ l) (sym part) ∙ joined) (Consumes-trans _ _ _ _ _ c.loop-len.invariant.2 c.in-Ok.ensures.bytes.0))
