@@ -2,61 +2,48 @@
 // Relies on nothing; the run of items, the play of rounds and the proposals of a line rely on it.
 ghost use Rattle.lexer.specs.Known.{NumberStands, KnownIs, FigureStands, KnownFigureIs};
 
-// The number and the place after it.
-#[derive(Clone, Copy)]
-pub struct KnownNumber {
-    pub value: u32,
-    pub next: usize,
-}
-
-#[derive(Clone, Copy)]
-pub struct KnownFigure {
-    pub value: i32,
-    pub next: usize,
-}
+use crate::At;
 
 // The number at `at`: a first 0 is all of it, and else its digits go on to the first byte that is none.
-pub fn known_number(line: &[u8], at: usize) -> KnownNumber
+pub fn known_number(line: &[u8], at: usize) -> At<u32>
     requires { NumberStands line.now at }
     ensures { KnownIs line.now at result }
 {
     let first = line[at];
     if first == b'0' {
-        return KnownNumber {
+        return At {
             value: 0,
             next: at + 1,
         };
     }
-    let mut value = (first - b'0') as u32;
-    let mut next = at + 1;
-    while next < line.len() {
+    let mut value = u32::from(first - b'0');
+    for next in at + 1..line.len() {
         let byte = line[next];
-        if byte < b'0' {
-            return KnownNumber { value, next };
+        if !byte.is_ascii_digit() {
+            return At { value, next };
         }
-        if b'9' < byte {
-            return KnownNumber { value, next };
-        }
-        value = 10 * value + (byte - b'0') as u32;
-        next += 1;
+        value = 10 * value + u32::from(byte - b'0');
     }
-    KnownNumber { value, next }
+    At {
+        value,
+        next: line.len(),
+    }
 }
 
 // The figure behind the space at `at`. The complement of a number is one below its negative.
-pub fn known_figure(line: &[u8], at: usize) -> KnownFigure
+pub fn known_figure(line: &[u8], at: usize) -> At<i32>
     requires { FigureStands line.now at }
     ensures { KnownFigureIs line.now at result }
 {
     if line[at + 1] == b'-' {
         let size = known_number(line, at + 2);
-        return KnownFigure {
+        return At {
             value: !((size.value - 1) as i32),
             next: size.next,
         };
     }
     let size = known_number(line, at + 1);
-    KnownFigure {
+    At {
         value: size.value as i32,
         next: size.next,
     }

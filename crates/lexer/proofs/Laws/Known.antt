@@ -7,15 +7,16 @@ use Rattle.model.specs.Forms.{Read, found, and_then, digit, digits_from, natural
 use Rattle.model.proofs.Basics.Tests.{true-T, T_true, never}
 use Rattle.model.proofs.Calls.Refusals.{within, within-T}
 use Rattle.model.proofs.Sheet.NumbersBack.{grows}
-use Rattle.lexer.specs.declared.number.FoundNumber.{FoundNumber}
-use Rattle.lexer.specs.declared.number.FoundNumber.TheVariants.{At}
-use Rattle.lexer.specs.declared.known.KnownNumber.{KnownNumber}
+use Rattle.std.specs.Prelude.{Ok}
+use Rattle.std.specs.declared.result.Result.{Result}
+use Rattle.model.specs.declared.refusal.Refusal.{Refusal}
+use Rattle.lexer.specs.declared.At.{At}
 use Rattle.lexer.specs.Placed.{DigitsIs, NumberIs}
 use Rattle.lexer.specs.Known.{NumberStands, KnownIs}
 use Rattle.lexer.proofs.Laws.Places.{here}
 use Rattle.lexer.proofs.Laws.Given.{passed}
-use Rattle.lexer.proofs.Laws.Numbers.{Along, is_digit, from_digits}
-use Rattle.lexer.proofs.Laws.Spaced.{number_found}
+use Rattle.lexer.proofs.Laws.Numbers.{Along, from_digits}
+use Rattle.lexer.proofs.Laws.Answers.{there}
 
 -- ---- a number that is found is in its range, and is found in every wider one
 
@@ -54,11 +55,11 @@ module _ (line : List ℕ) (at low high : ℕ) (small : high ≤ 2147483648) (r 
   unfolding NumberStands
   stands_there = (r, number_wider (drop at line) r low high small read)
 
-  module _ (n : KnownNumber) (is : KnownIs line at n) where
+  module _ (n : At ℕ) (is : KnownIs line at n) where
     pub known_found : number_in low high (drop at line) ≡ found n.value (drop n.next line)
     known_found =
         read ∙ sym (number_wider (drop at line) r low high small read)
-        ∙ number_found line (At n.value n.next) _ is.reads n.value n.next refl
+        ∙ there (λ v. v) line (Ok n) _ is.reads n refl
 
     pub known_range : (low ≤ n.value) × (n.value ≤ high)
     unfolding found
@@ -94,29 +95,29 @@ module _ (line : List ℕ) (at : ℕ) (stands : NumberStands line at) where
         (lt_of_not-le (λ (h : get_or line at 0 ≤ 48). no_zero (omega (arith, range.0))), range.1)
 
     -- its digits, read to where they end
-    pub known_read : (r : FoundNumber) → DigitsIs line (at + 1) (get_or line at 0 - 48) 2147483648 r
+    pub known_read : (r : Result (At ℕ) Refusal) → DigitsIs line (at + 1) (get_or line at 0 - 48) 2147483648 r
         → NumberIs line at 0 2147483648 r
     known_read r h =
-        from_digits line at 0 2147483648 known_inside (omega arith) (omega (arith, first_digit.0)) first_digit.1 r h
+        from_digits line at 0 2147483648 known_inside (omega arith) first_digit.0 known_digits.0 _ refl r h
 
     pub first_small : get_or line at 0 - 48 ≤ 2147483648
     first_small = omega (arith, first_digit.1)
 
     pub stays_small : (next value : ℕ) → Along line (at + 1) (get_or line at 0 - 48) 2147483648 next value
-        → next < length line → 48 ≤ get_or line next 0 → get_or line next 0 ≤ 57
+        → next < length line → digit (get_or line next 0) ≡ true
         → 10 * value + (get_or line next 0 - 48) ≤ 2147483648
     unfolding digits_from
-    stays_small next value along h low up =
+    stays_small next value along h is_digit =
         let more : ℕ = 10 * value + (get_or line next 0 - 48) in
         let all : digits_from (get_or line at 0 - 48) (drop (at + 1) line) ≡ digits_from more (drop (next + 1) line) =
-        along.same ∙ rw (here line next h, is_digit (get_or line next 0) low up) in
+        along.same ∙ rw (here line next h, is_digit) in
         omega (arith, known_digits.1, grows (drop (next + 1) line) more, ap (λ (s : Read ℕ). s.value) all)
 
     -- so that neither the product nor the sum of the next digit leaves 32 bits
     module _ (next value : ℕ) (along : Along line (at + 1) (get_or line at 0 - 48) 2147483648 next value)
-        (h : next < length line) (low : 48 ≤ get_or line next 0) (up : get_or line next 0 ≤ 57) where
+        (h : next < length line) (is_digit : digit (get_or line next 0) ≡ true) where
       pub product_fits : Fits w32 (10 * value)
-      product_fits = record { fits = omega (arith, stays_small next value along h low up) }
+      product_fits = record { fits = omega (arith, stays_small next value along h is_digit) }
 
       pub sum_fits : Fits w32 (10 * value + (get_or line next 0 - 48))
-      sum_fits = record { fits = omega (arith, stays_small next value along h low up) }
+      sum_fits = record { fits = omega (arith, stays_small next value along h is_digit) }

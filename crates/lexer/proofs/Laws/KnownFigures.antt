@@ -5,16 +5,14 @@ use Rattle.model.proofs.Kit.{drop_of_length-le, get_or, lt_of_not-le, eqb, eqb-t
 use Rattle.model.specs.Figure.{Figure}
 use Rattle.model.specs.Forms.{found, and_then, spaced, natural, number_in, figure_in, or_four}
 use Rattle.model.proofs.Basics.Tests.{by_test, never}
-use Rattle.lexer.specs.declared.number.FoundNumber.TheVariants.{At}
-use Rattle.lexer.specs.declared.number.FoundFigure.TheVariants as signed
-use Rattle.lexer.specs.declared.known.KnownNumber.{KnownNumber}
-use Rattle.lexer.specs.declared.known.KnownFigure.{KnownFigure}
-use Rattle.lexer.specs.Placed.{number_at, NumberIs, FigureIs}
+use Rattle.std.specs.Prelude.{Ok}
+use Rattle.lexer.specs.declared.At.{At}
+use Rattle.lexer.specs.Placed.{placed_as, NumberIs, FigureIs}
 use Rattle.lexer.specs.Known.{NumberStands, KnownIs, FigureStands, KnownFigureIs}
 use Rattle.lexer.proofs.Laws.Given.{found_one, through}
 use Rattle.lexer.proofs.Laws.Known.{stands_there, known_found, known_range}
-use Rattle.lexer.proofs.Laws.Spaced.{space_read, no_space, minus_read, plain_read, minus_found, plain_found}
-use Rattle.lexer.proofs.Laws.Spaced.{positive_fits, figure_found}
+use Rattle.lexer.proofs.Laws.Spaced.{space_read, no_space, minus_read, plain_read, minus_found, plain_found, positive_fits}
+use Rattle.lexer.proofs.Laws.Answers.{there}
 
 -- a number that was found before in its range is read again in that range
 module _ (line : List ℕ) (at low high : ℕ) (small : high ≤ 2147483648) (v : ℕ) (rest : List ℕ)
@@ -23,9 +21,9 @@ module _ (line : List ℕ) (at low high : ℕ) (small : high ≤ 2147483648) (v 
   unfolding found
   number_stands = stands_there line at low high small _ read
 
-  module _ (n : KnownNumber) (is : KnownIs line at n) where
-    pub read_again : NumberIs line at low high (At n.value n.next)
-    unfolding number_at or_four found
+  module _ (n : At ℕ) (is : KnownIs line at n) where
+    pub read_again : NumberIs line at low high (Ok n)
+    unfolding placed_as or_four found
     read_again =
         let range = known_range line at low high small _ read n is in
         record {
@@ -58,8 +56,8 @@ module _ (line : List ℕ) (at : ℕ) (stands : FigureStands line at) where
     pub minus_stands : NumberStands line (at + 2)
     minus_stands = number_stands line (at + 2) 1 2147483648 (omega arith) _ _ size_below.2
 
-    module _ (n : KnownNumber) (is : KnownIs line (at + 2) n) where
-      again_below : NumberIs line (at + 2) 1 2147483648 (At n.value n.next)
+    module _ (n : At ℕ) (is : KnownIs line (at + 2) n) where
+      again_below : NumberIs line (at + 2) 1 2147483648 (Ok n)
       again_below = read_again line (at + 2) 1 2147483648 (omega arith) _ _ size_below.2 n is
 
       pub minus_some : 1 ≤ n.value
@@ -68,8 +66,8 @@ module _ (line : List ℕ) (at : ℕ) (stands : FigureStands line at) where
       pub minus_fits : SFits w32 (pos (n.value - 1))
       minus_fits = positive_fits (n.value - 1) (omega (arith, again_below.inside.3))
 
-      pub minus_known : FigureIs line at (signed.At (to_z w32 (4294967295 - (n.value - 1))) n.next)
-      minus_known = minus_found line at space minus _ again_below n.value n.next refl
+      pub minus_known : FigureIs line at (Ok (record { value = to_z w32 (4294967295 - (n.value - 1)); next = n.next }))
+      minus_known = minus_found line at space minus _ again_below n refl
 
   module _ (plain : get_or line (at + 1) 0 ≡ 45 → ⊥) where
     size_above : (v : ℕ) × (rest : List ℕ) × (number_in 0 2147483647 (drop (at + 1) line) ≡ found v rest)
@@ -83,20 +81,20 @@ module _ (line : List ℕ) (at : ℕ) (stands : FigureStands line at) where
     pub plain_stands : NumberStands line (at + 1)
     plain_stands = number_stands line (at + 1) 0 2147483647 (omega arith) _ _ size_above.2
 
-    module _ (n : KnownNumber) (is : KnownIs line (at + 1) n) where
-      again_above : NumberIs line (at + 1) 0 2147483647 (At n.value n.next)
+    module _ (n : At ℕ) (is : KnownIs line (at + 1) n) where
+      again_above : NumberIs line (at + 1) 0 2147483647 (Ok n)
       again_above = read_again line (at + 1) 0 2147483647 (omega arith) _ _ size_above.2 n is
 
       pub plain_fits : SFits w32 (pos n.value)
       plain_fits = positive_fits n.value again_above.inside.3
 
-      pub plain_known : FigureIs line at (signed.At (to_z w32 n.value) n.next)
-      plain_known = plain_found line at space plain _ again_above n.value n.next refl
+      pub plain_known : FigureIs line at (Ok (record { value = to_z w32 n.value; next = n.next }))
+      plain_known = plain_found line at space plain _ again_above n refl
 
 -- what a known figure is, where one was read before
 pub figure_known : (line : List ℕ) (at : ℕ) (v : Figure) (rest : List ℕ) → spaced figure_in (drop at line) ≡ found v rest
-    → (n : KnownFigure) → KnownFigureIs line at n → (n.value ≡ v) × (drop n.next line ≡ rest)
+    → (n : At Figure) → KnownFigureIs line at n → (n.value ≡ v) × (drop n.next line ≡ rest)
 unfolding found
 figure_known line at v rest e n is =
     found_one _ _ _ _
-    (sym (figure_found line (signed.At n.value n.next) _ is.reads n.value n.next refl) ∙ e)
+    (sym (there (λ v. v) line (Ok n) _ is.reads n refl) ∙ e)

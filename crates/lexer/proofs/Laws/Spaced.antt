@@ -1,20 +1,20 @@
 -- A number and a figure behind a single space, and what a reading that was taken apart says of the bytes.
 -- Relies on Places, Answers and the model's `spaced` and `figure_in`; the proofs of src/number.rt, and those of the
 -- readers above, rely on it.
-use Rattle.model.proofs.Kit.{◌≡◌, sym, ap, subst, ◌∙◌, List, none, Option, ℕ, suc, ◌+◌, ◌-◌, ◌≤◌, ◌<◌, eq-eqb, ne_eqb}
-use Rattle.model.proofs.Kit.{ℤ, pos, negsuc, length, drop, drop_of_length-le, get_or, drop-drop, w8, w32, to_z, Fits}
+use Rattle.model.proofs.Kit.{◌≡◌, sym, ap, ◌∙◌, List, none, Option, ℕ, suc, ◌+◌, ◌-◌, ◌≤◌, eq-eqb, ne_eqb}
+use Rattle.model.proofs.Kit.{pos, negsuc, length, drop, drop_of_length-le, get_or, drop-drop, w8, w32, to_z, Fits}
 use Rattle.model.proofs.Kit.{SFits, arith}
 use lib.ListN.{get_or-eq_default}
 use mir.ValLaws.{to_z_pos, to_z-neg}
-use Rattle.model.specs.Figure.{Figure}
 use Rattle.model.specs.Forms.{Read, found, and_then, spaced, natural, number_in, figure_in}
-use Rattle.lexer.specs.declared.number.FoundNumber.{FoundNumber}
-use Rattle.lexer.specs.declared.number.FoundNumber.TheVariants as numbers
-use Rattle.lexer.specs.declared.number.FoundFigure.{FoundFigure}
-use Rattle.lexer.specs.declared.number.FoundFigure.TheVariants as signed
+use Rattle.std.specs.Prelude.{Ok, Err}
+use Rattle.std.specs.declared.result.Result.{Result}
+use Rattle.model.specs.declared.refusal.Refusal.{Refusal}
+use Rattle.model.specs.declared.refusal.Refusal.TheVariants.{NoForm}
+use Rattle.lexer.specs.declared.At.{At}
 use Rattle.model.specs.Forms.{or_four}
-use Rattle.lexer.specs.Placed.{number_at, figure_at, NumberInside, NumberIs, SpacedIs, FigureIs, FigureInside}
-use Rattle.lexer.proofs.Laws.Answers.{back, was_read}
+use Rattle.lexer.specs.Placed.{placed_as, NumberInside, NumberIs, SpacedIs, FigureIs}
+use Rattle.lexer.proofs.Laws.Answers.{missed, there, number_inside}
 use Rattle.lexer.proofs.Laws.Places.{first_byte, behind_first}
 
 -- ---- a space in front
@@ -35,59 +35,30 @@ module _ {A : Type 0} (read : List ℕ → Option (Read A)) (line : List ℕ) (a
 -- ---- a number
 
 module _ (line : List ℕ) (at : ℕ) where
-  unspaced : spaced (number_in 0 99) (drop at line) ≡ none → SpacedIs line at (numbers.Refused 4)
-  unfolding number_at or_four
+  unspaced : spaced (number_in 0 99) (drop at line) ≡ none → SpacedIs line at (Err NoForm)
+  unfolding placed_as or_four
   unspaced e = record { reads = ap or_four (sym e); inside = tt }
 
-  pub number_past : length line ≤ at → SpacedIs line at (numbers.Refused 4)
+  pub number_past : length line ≤ at → SpacedIs line at (Err NoForm)
   number_past h = unspaced (no_space_left (number_in 0 99) line at h)
 
-  pub number_unspaced : (get_or line at 0 ≡ 32 → ⊥) → SpacedIs line at (numbers.Refused 4)
+  pub number_unspaced : (get_or line at 0 ≡ 32 → ⊥) → SpacedIs line at (Err NoForm)
   number_unspaced ne = unspaced (no_space (number_in 0 99) line at ne)
 
-  nearer : (r : FoundNumber) → NumberInside line (at + 1) 0 99 r → NumberInside line at 0 99 r
-  nearer (numbers.At v next) h = (omega (arith, h.0), h.1, h.2, h.3)
-  nearer (numbers.Refused k) h = tt
+  nearer : (r : Result (At ℕ) Refusal) → NumberInside line (at + 1) 0 99 r → NumberInside line at 0 99 r
+  nearer (Ok a) h = (omega (arith, h.0), h.1, h.2, h.3)
+  nearer (Err e) h = tt
 
-  pub number_spaced : get_or line at 0 ≡ 32 → (r : FoundNumber) → NumberIs line (at + 1) 0 99 r → SpacedIs line at r
+  pub number_spaced : get_or line at 0 ≡ 32 → (r : Result (At ℕ) Refusal) → NumberIs line (at + 1) 0 99 r → SpacedIs line at r
   number_spaced e r is =
       record {
         reads = is.reads ∙ ap or_four (sym (space_read (number_in 0 99) line at e));
         inside = nearer r is.inside;
       }
 
--- ---- what a reading that was taken apart says
-
-module _ (line : List ℕ) (r : FoundNumber) (o : Option (Read ℕ)) (reads : number_at line r ≡ or_four o) where
-  pub number_missed : (k : ℕ) → r ≡ numbers.Refused k → o ≡ none
-  unfolding number_at back
-  number_missed k e = was_read (number_at line) o r _ reads e
-
-  pub number_found : (v next : ℕ) → r ≡ numbers.At v next → o ≡ found v (drop next line)
-  unfolding number_at back found
-  number_found v next e = was_read (number_at line) o r _ reads e
-
-pub number_inside : (line : List ℕ) (at low high : ℕ) (r : FoundNumber) → NumberInside line at low high r
-    → (v next : ℕ) → r ≡ numbers.At v next → (at < next) × (next ≤ length line) × (low ≤ v) × (v ≤ high)
-number_inside line at low high r inside v next e = subst (NumberInside line at low high) e inside
-
-pub byte_fits : (line : List ℕ) (at : ℕ) (r : FoundNumber) → SpacedIs line at r → (v next : ℕ) → r ≡ numbers.At v next
-    → Fits w8 v
-byte_fits line at r is v next e =
-    record { fits = omega (arith, (number_inside line at 0 99 r is.inside v next e).3) }
-
-module _ (line : List ℕ) (r : FoundFigure) (o : Option (Read Figure)) (reads : figure_at line r ≡ or_four o) where
-  pub figure_missed : (k : ℕ) → r ≡ signed.Refused k → o ≡ none
-  unfolding figure_at back
-  figure_missed k e = was_read (figure_at line) o r _ reads e
-
-  pub figure_found : (v : ℤ) (next : ℕ) → r ≡ signed.At v next → o ≡ found v (drop next line)
-  unfolding figure_at back found
-  figure_found v next e = was_read (figure_at line) o r _ reads e
-
-pub figure_inside : (line : List ℕ) (at : ℕ) (r : FoundFigure) → FigureInside line at r
-    → (v : ℤ) (next : ℕ) → r ≡ signed.At v next → (at < next) × (next ≤ length line)
-figure_inside line at r inside v next e = subst (FigureInside line at) e inside
+pub byte_fits : (line : List ℕ) (at : ℕ) (r : Result (At ℕ) Refusal) → SpacedIs line at r → (a : At ℕ) → r ≡ Ok a
+    → Fits w8 a.value
+byte_fits line at r is a e = record { fits = omega (arith, (number_inside line at 0 99 r is.inside a e).3) }
 
 -- ---- a figure
 
@@ -102,18 +73,18 @@ pub positive_fits : (n : ℕ) → n ≤ 2147483647 → SFits w32 (pos n)
 positive_fits n h = record { sfits = omega arith }
 
 module _ (line : List ℕ) (at : ℕ) where
-  no_figure : spaced figure_in (drop at line) ≡ none → FigureIs line at (signed.Refused 4)
-  unfolding figure_at or_four
+  no_figure : spaced figure_in (drop at line) ≡ none → FigureIs line at (Err NoForm)
+  unfolding placed_as or_four
   no_figure e = record { reads = ap or_four (sym e); inside = tt }
 
-  pub figure_past : length line ≤ at → FigureIs line at (signed.Refused 4)
+  pub figure_past : length line ≤ at → FigureIs line at (Err NoForm)
   figure_past h = no_figure (no_space_left figure_in line at h)
 
-  pub figure_unspaced : (get_or line at 0 ≡ 32 → ⊥) → FigureIs line at (signed.Refused 4)
+  pub figure_unspaced : (get_or line at 0 ≡ 32 → ⊥) → FigureIs line at (Err NoForm)
   figure_unspaced ne = no_figure (no_space figure_in line at ne)
 
   module _ (space : get_or line at 0 ≡ 32) where
-    pub figure_cut : length line ≤ at + 1 → FigureIs line at (signed.Refused 4)
+    pub figure_cut : length line ≤ at + 1 → FigureIs line at (Err NoForm)
     unfolding figure_in number_in natural and_then
     figure_cut h = no_figure (space_read figure_in line at space ∙ rw (drop_of_length-le line h))
 
@@ -135,42 +106,44 @@ module _ (line : List ℕ) (at : ℕ) where
     plain_read ne =
         space_read figure_in line at space ∙ rw (first_byte line (at + 1), ne_eqb (get_or line (at + 1) 0) 45 ne)
 
-    module _ (minus : get_or line (at + 1) 0 ≡ 45) (r : FoundNumber) (is : NumberIs line (at + 2) 1 2147483648 r) where
-      pub minus_missed : (k : ℕ) → r ≡ numbers.Refused k → FigureIs line at (signed.Refused 4)
-      unfolding and_then
-      minus_missed k e = no_figure (minus_read minus ∙ rw (number_missed line r _ is.reads k e))
+    module _ (minus : get_or line (at + 1) 0 ≡ 45) (r : Result (At ℕ) Refusal) (is : NumberIs line (at + 2) 1 2147483648 r)
+      where
+        pub minus_missed : (k : Refusal) → r ≡ Err k → FigureIs line at (Err NoForm)
+        unfolding and_then
+        minus_missed k e = no_figure (minus_read minus ∙ rw (missed (λ v. v) line r _ is.reads k e))
 
-      pub minus_found : (v next : ℕ) → r ≡ numbers.At v next
-          → FigureIs line at (signed.At (to_z w32 (4294967295 - (v - 1))) next)
-      unfolding and_then figure_at found or_four
-      minus_found v next e =
-          let in-line = number_inside line (at + 2) 1 2147483648 r is.inside v next e in
-          record {
-            reads =
-                rw (
-                  below_zero v in-line.2 in-line.3,
-                  minus_read minus,
-                  number_found line r (number_in 1 2147483648 (drop (at + 2) line)) is.reads v next e,
-                );
-            inside = (omega (arith, in-line.0), in-line.1);
-          }
+        pub minus_found : (a : At ℕ) → r ≡ Ok a
+            → FigureIs line at (Ok (record { value = to_z w32 (4294967295 - (a.value - 1)); next = a.next }))
+        unfolding and_then placed_as found or_four
+        minus_found a e =
+            let in-line = number_inside line (at + 2) 1 2147483648 r is.inside a e in
+            record {
+              reads =
+                  rw (
+                    below_zero a.value in-line.2 in-line.3,
+                    minus_read minus,
+                    there (λ v. v) line r (number_in 1 2147483648 (drop (at + 2) line)) is.reads a e,
+                  );
+              inside = (omega (arith, in-line.0), in-line.1);
+            }
 
-    module _ (plain : get_or line (at + 1) 0 ≡ 45 → ⊥) (r : FoundNumber)
+    module _ (plain : get_or line (at + 1) 0 ≡ 45 → ⊥) (r : Result (At ℕ) Refusal)
         (is : NumberIs line (at + 1) 0 2147483647 r) where
-      pub plain_missed : (k : ℕ) → r ≡ numbers.Refused k → FigureIs line at (signed.Refused 4)
+      pub plain_missed : (k : Refusal) → r ≡ Err k → FigureIs line at (Err NoForm)
       unfolding and_then
-      plain_missed k e = no_figure (plain_read plain ∙ rw (number_missed line r _ is.reads k e))
+      plain_missed k e = no_figure (plain_read plain ∙ rw (missed (λ v. v) line r _ is.reads k e))
 
-      pub plain_found : (v next : ℕ) → r ≡ numbers.At v next → FigureIs line at (signed.At (to_z w32 v) next)
-      unfolding and_then figure_at found or_four
-      plain_found v next e =
-          let in-line = number_inside line (at + 1) 0 2147483647 r is.inside v next e in
+      pub plain_found : (a : At ℕ) → r ≡ Ok a
+          → FigureIs line at (Ok (record { value = to_z w32 a.value; next = a.next }))
+      unfolding and_then placed_as found or_four
+      plain_found a e =
+          let in-line = number_inside line (at + 1) 0 2147483647 r is.inside a e in
           record {
             reads =
                 rw (
-                  to_z_pos w32 v (omega (arith, in-line.3)),
+                  to_z_pos w32 a.value (omega (arith, in-line.3)),
                   plain_read plain,
-                  number_found line r (number_in 0 2147483647 (drop (at + 1) line)) is.reads v next e,
+                  there (λ v. v) line r (number_in 0 2147483647 (drop (at + 1) line)) is.reads a e,
                 );
             inside = (omega (arith, in-line.0), in-line.1);
           }

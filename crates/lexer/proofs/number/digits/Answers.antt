@@ -1,21 +1,27 @@
-use Rattle.model.proofs.Kit.{arith}
-use Rattle.lexer.proofs.Laws.Numbers.{begun, digit_more, beyond, below, above, ended}
+use Rattle.model.proofs.Kit.{sym, ◌∙◌, arith}
+use Rattle.model.specs.Forms.{digit}
+use Rattle.lexer.proofs.Laws.Numbers.{digit_more, beyond, stopped, ended}
 use Rattle.lexer.proofs.number.digits.Goals as goal
 
-pub loop-next-init : goal.loop-next-init
-loop-next-init c = (begun _ _ _ _ c.requires.0 c.requires.1, c.requires.2)
+pub returns-then-not-is_ascii_digit : goal.returns-then-not-is_ascii_digit
+unfolding digit
+returns-then-not-is_ascii_digit c =
+    stopped _ _ _ _ _ _ c.loop-next.invariant.0 c.loop-next-test.true
+    (sym c.is_ascii_digit.ensures.value ∙ c.if-not-is_ascii_digit.true)
 
-pub returns-then-byte-lt48 : goal.returns-then-byte-lt48
-returns-then-byte-lt48 c = search below
-
-pub returns-then-byte-gt57 : goal.returns-then-byte-gt57
-returns-then-byte-gt57 c = search above
-
-pub returns-then-high-more : goal.returns-then-high-more
-returns-then-high-more c = beyond _ _ _ _ _ _ (search) (omega arith) (omega arith) (omega arith) c.if-high-more.true
+pub returns-then-from-more : goal.returns-then-from-more
+unfolding digit
+returns-then-from-more c =
+    beyond _ _ _ _ _ _ c.loop-next.invariant.0 c.loop-next-test.true
+    (sym c.is_ascii_digit.ensures.value ∙ c.if-not-is_ascii_digit.false) (omega arith)
 
 pub loop-next-preserved : goal.loop-next-preserved
-loop-next-preserved c = search digit_more
+unfolding digit
+loop-next-preserved c = (
+  digit_more _ _ _ _ _ _ c.loop-next.invariant.0 c.loop-next-test.true
+      (sym c.is_ascii_digit.ensures.value ∙ c.if-not-is_ascii_digit.false) _ (omega arith) (omega arith),
+  c.loop-next.invariant.1,
+)
 
 pub returns : goal.returns
-returns c = search ended
+returns c = ended _ _ _ _ _ _ c.loop-next.invariant.0 c.loop-next-test.false

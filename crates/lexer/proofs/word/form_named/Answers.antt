@@ -1,34 +1,30 @@
--- `word::form_named` meets its contract: `check::same` answers as the model's test does, so the first text that is
--- equal names the form.
+-- `word::form_named` meets its contract: `==` answers as the model's test does, so the first text that is equal names
+-- the form.
 use Rattle.model.specs.Show.{text, text_from}
-use Rattle.lexer.proofs.Laws.Words.{same_says, names_board, names_propose, names_steps, names_show}
+use Rattle.lexer.proofs.Laws.Words.{equal_says, names_board, names_propose, names_steps, names_show}
 use Rattle.lexer.proofs.Laws.Words.{names_rounds, names_nothing}
 use Rattle.lexer.proofs.word.form_named.Goals as goal
 
-pub returns-then-same : goal.returns-then-same
+pub returns-then-eq : goal.returns-then-eq
 unfolding text text_from
-returns-then-same c = search (same_says, names_board)
+returns-then-eq c = search (equal_says, names_board)
 
-pub returns-then-same-2 : goal.returns-then-same-2
+pub returns-then-eq-2 : goal.returns-then-eq-2
 unfolding text text_from
-returns-then-same-2 c = search (same_says, names_propose)
+returns-then-eq-2 c = search (equal_says, names_propose)
 
-pub returns-then-same-3 : goal.returns-then-same-3
+pub returns-then-eq-3 : goal.returns-then-eq-3
 unfolding text text_from
-returns-then-same-3 c = search (same_says, names_steps)
+returns-then-eq-3 c = search (equal_says, names_steps)
 
-pub returns-then-same-4 : goal.returns-then-same-4
+pub returns-then-eq-4 : goal.returns-then-eq-4
 unfolding text text_from
-returns-then-same-4 c =
-    names_show _ (search same_says) (search same_says) (search same_says)
-    (same_says _ _ _ _ c.same-4.ensures c.if-same-4.true)
+returns-then-eq-4 c = search (equal_says, names_show)
 
-pub returns-then-same-5 : goal.returns-then-same-5
+pub returns-then-eq-5 : goal.returns-then-eq-5
 unfolding text text_from
-returns-then-same-5 c =
-    names_rounds _ (search same_says) (search same_says) (search same_says) (search same_says)
-    (same_says _ _ _ _ c.same-5.ensures c.if-same-5.true)
+returns-then-eq-5 c = search (equal_says, names_rounds)
 
 pub returns : goal.returns
 unfolding text text_from
-returns c = search (same_says, names_nothing)
+returns c = search (equal_says, names_nothing)

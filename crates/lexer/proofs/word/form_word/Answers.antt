@@ -3,8 +3,14 @@ use Rattle.model.proofs.Kit.{arith}
 use Rattle.lexer.proofs.Laws.Words.{no_word, its_word}
 use Rattle.lexer.proofs.word.form_word.Goals as goal
 
-pub returns-in_default : goal.returns-in_default
-returns-in_default c = record { bytes = search no_word; place = λ h. absurd (omega arith) }
+pub returns-then-is_none : goal.returns-then-is_none
+returns-then-is_none c = record {
+  bytes = no_word _ _ c.first_word-word.ensures.bytes _ c.form_named.ensures c.if-is_none.ensures;
+  place = λ h. absurd (omega arith);
+}
 
 pub returns : goal.returns
-returns c = record { bytes = search its_word; place = search }
+returns c = record {
+  bytes = its_word _ _ c.first_word-word.ensures.bytes _ c.form_named.ensures c.if-is_none.ensures;
+  place = search;
+}

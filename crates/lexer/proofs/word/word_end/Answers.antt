@@ -1,20 +1,21 @@
-use Rattle.lexer.proofs.Laws.Words.{begun, goes_on, at_space, at_open, at_close, at_end}
+-- `word::word_end` meets its contract: the search stops at the first byte that ends a word.
+use Rattle.std.proofs.Common.{rules, drop, ◌∙◌}
+use borrow.Author.Tests.{tests}
+use Rattle.std.proofs.lemmas.Iterator.{YieldsList-from_slice}
+use Rattle.std.proofs.lemmas.Iterator.Search.{position_from_yields_List}
+use Rattle.lexer.proofs.Laws.Words.{stop, all_behind, ends_at, ends_last}
 use Rattle.lexer.proofs.word.word_end.Goals as goal
 
-pub loop-end-init : goal.loop-end-init
-loop-end-init c = begun _ c.requires
+pub returns-in-Some : goal.returns-in-Some
+returns-in-Some c =
+    ends_at _ c.requires _
+    (position_from_yields_List stop _ _ _ c.position-stop.ensures.ran (YieldsList-from_slice (drop 1 c.args.line.now) (c.iter.ensures.rest ∙ all_behind _))
+    (λ x b q k. search (rules, tests)))
+    _ c.in-Some.is
 
-pub returns-then-byte-eq32 : goal.returns-then-byte-eq32
-returns-then-byte-eq32 c = at_space _ _ (search) (search) c.if-byte-eq32.true
-
-pub returns-then-byte-eq40 : goal.returns-then-byte-eq40
-returns-then-byte-eq40 c = search at_open
-
-pub returns-then-byte-eq41 : goal.returns-then-byte-eq41
-returns-then-byte-eq41 c = search at_close
-
-pub loop-end-preserved : goal.loop-end-preserved
-loop-end-preserved c = search goes_on
-
-pub returns : goal.returns
-returns c = search at_end
+pub returns-in-None : goal.returns-in-None
+returns-in-None c =
+    ends_last _ c.requires _
+    (position_from_yields_List stop _ _ _ c.position-stop.ensures.ran (YieldsList-from_slice (drop 1 c.args.line.now) (c.iter.ensures.rest ∙ all_behind _))
+    (λ x b q k. search (rules, tests)))
+    c.in-None.is
