@@ -31,3 +31,11 @@ signed_below (negsuc n) e = refl
 
 pub below_then : (l : List ℕ) (z : ℤ) → lt_z z (pos 0) ≡ true → (l ++ 45 ∷ []) ++ decimal (nat_abs z) ≡ l ++ signed z
 below_then l z e = append_assoc l (45 ∷ []) (decimal (nat_abs z)) ∙ ap (λ (d : List ℕ). l ++ d) (sym (signed_below z e))
+
+pub below_room : (l : List ℕ) (z : ℤ) → lt_z z (pos 0) ≡ true → length l + length (signed z) ≤ 512
+    → length (l ++ 45 ∷ []) + length (decimal (nat_abs z)) ≤ 512
+below_room l z e h = omega (arith, ap length (signed_below z e), length-append l (45 ∷ []), h)
+
+pub ruleset digits = (digits_room, digit_room, digits_then)
+
+pub ruleset signs = (signed_plain, signed_below, below_then, below_room)

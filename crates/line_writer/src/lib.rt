@@ -3,4 +3,4 @@
 #![tactic(auto)]
 
 pub mod line;
-pub mod number;
+mod number;

@@ -7,6 +7,7 @@ use crate::line::Line;
 
 impl Line {
     // The digits before the last one are a number's too.
+    #[tactic(auto, using(crate::proofs::Numbers::digits, model::proofs::Basics::Decimals::decimal_one))]
     pub fn push_decimal(&mut self, x: u32)
         requires { length self.old + length (decimal x) ≤ 512 }
         ensures { self.new ≡ self.old ++ decimal x }
@@ -17,6 +18,7 @@ impl Line {
         self.push(b'0' + (x % 10) as u8);
     }
 
+    #[tactic(auto, using(crate::proofs::Numbers::signs))]
     pub fn push_figure(&mut self, v: i32)
         requires { length self.old + length (signed v) ≤ 512 }
         ensures { self.new ≡ self.old ++ signed v }
