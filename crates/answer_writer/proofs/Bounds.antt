@@ -1,25 +1,20 @@
 -- How long the lines of a run sheet can be: each leaves room for its LF.
 -- Relies on Decimals; the proofs of the lines and the player rely on it.
-use Rattle.model.proofs.Kit.{List, ℕ, ◌≤◌, ◌<◌, length, length-append, arith}
+use Rattle.model.proofs.Kit.{ℕ, ◌<◌, length, length-append, arith}
 use Rattle.model.specs.Figure.{Figure}
 use Rattle.model.specs.Show.{text, text_from}
 use Rattle.model.specs.Calls.{ran}
 use Rattle.model.specs.Rounds.{played}
 use Rattle.model.specs.Sheet.{refused_text, laid_text, proposed_text, together_text, ran_text, played_text}
-use Rattle.answer_writer.specs.Texts.{numbered_text}
 use Rattle.line_writer.proofs.Decimals.{length_any, length_signed}
 
-pub numbered_short : (w : List ℕ) (k : ℕ) → length w ≤ 64 → length (numbered_text w k) < 512
-unfolding numbered_text text text_from
-numbered_short w k h = simp length-append (omega (arith, length_any k))
-
 pub refused_short : (k : ℕ) → length (refused_text k) < 512
-unfolding refused_text numbered_text text text_from
-refused_short k = numbered_short (text "(refused ") k (omega arith)
+unfolding refused_text text text_from
+refused_short k = simp length-append (omega (arith, length_any k))
 
 pub together_short : (m : ℕ) → length (together_text m) < 512
-unfolding together_text numbered_text text text_from
-together_short m = numbered_short (text "(proposed ") m (omega arith)
+unfolding together_text text text_from
+together_short m = simp length-append (omega (arith, length_any m))
 
 pub laid_short : (n K : ℕ) → length (laid_text n K) < 512
 unfolding laid_text text text_from

@@ -1,3 +1,2 @@
--- Laws that the proofs of the functions cite.
+-- Laws that the proofs of those who print a line cite.
 pub mod Bounds
-pub mod Answers

@@ -2,87 +2,90 @@
 // Relies on the writer of lines; the player of a line, the answers of a sheet and the program that compares tapes rely on it.
 #![tactic(auto)]
 
-ghost use Rattle.std.specs.Prelude.{◌≤◌, length};
+ghost use Rattle.std.specs.Prelude.{◌≡◌, ◌++◌, ◌≤◌, length};
 ghost use Rattle.model.specs.Calls.{ran};
 ghost use Rattle.model.specs.Rounds.{played};
 ghost use Rattle.model.specs.Sheet.{refused_text, laid_text, proposed_text, together_text, ran_text, played_text};
-ghost use Rattle.line_writer.specs.Puts.{Holds, Puts, Room, line_of};
-ghost use Rattle.answer_writer.specs.Texts.{numbered_text, two_numbers};
+ghost use Rattle.model.specs.Show.{text, decimal};
+ghost use Rattle.model.specs.Told.{number};
 
-use line_writer::line::{Line, empty, put_word, write_byte};
-use line_writer::number::{write_decimal, write_figure};
+use line_writer::line::Line;
+use model::Ran;
+use model::refusal::Refusal;
 
 // A bracket with its word and a space, a number, and the closing bracket.
+#[tactic(auto, using(line_writer::proofs::Decimals::lengths), unfolding(model::specs::Show::text, model::specs::Show::text_from))]
 fn numbered_line(word: &[u8], number: u32) -> Line
     requires { length word.now ≤ 64 }
-    ensures { Holds result (numbered_text word.now number) }
+    ensures { result ≡ word.now ++ decimal number ++ text ")" }
 {
-    let open = put_word(empty(), word);
-    let mut bytes = open.bytes;
-    let numbered = write_decimal(&mut bytes, open.len, number);
-    let len = write_byte(&mut bytes, numbered, b')');
-    Line { bytes, len }
+    let mut line = Line::new();
+    line.push_word(word);
+    line.push_decimal(number);
+    line.push(b')');
+    line
 }
 
-pub fn refused_line(number: u8) -> Line
-    ensures { Holds result (refused_text number) }
+#[tactic(auto, unfolding(model::specs::Sheet::refused_text, model::specs::Show::text, model::specs::Show::text_from))]
+pub fn refused_line(refusal: Refusal) -> Line
+    ensures { result ≡ refused_text (number refusal) }
 {
-    numbered_line(b"(refused ", number as u32)
+    numbered_line(b"(refused ", u32::from(u8::from(refusal)))
 }
 
 // So many pairs were put in together.
+#[tactic(auto, unfolding(model::specs::Sheet::together_text, model::specs::Show::text, model::specs::Show::text_from))]
 pub fn together_line(pairs: u32) -> Line
-    ensures { Holds result (together_text pairs) }
+    ensures { result ≡ together_text pairs }
 {
     numbered_line(b"(proposed ", pairs)
 }
 
-// Two numbers and the closing bracket.
-fn write_two(bytes: &mut [u8; 512], at: usize, a: u32, b: u32) -> usize
-    requires { Room (line_of bytes.old at) (two_numbers a b) }
-    ensures { Puts (line_of bytes.old at) (two_numbers a b) (line_of bytes.new result) }
+// The same with two numbers and a space between them.
+#[tactic(auto, using(line_writer::proofs::Decimals::lengths), unfolding(model::specs::Show::text, model::specs::Show::text_from))]
+fn paired_line(word: &[u8], a: u32, b: u32) -> Line
+    requires { length word.now ≤ 64 }
+    ensures { result ≡ word.now ++ decimal a ++ text " " ++ decimal b ++ text ")" }
 {
-    let first = write_decimal(bytes, at, a);
-    let spaced = write_byte(bytes, first, b' ');
-    let second = write_decimal(bytes, spaced, b);
-    write_byte(bytes, second, b')')
+    let mut line = Line::new();
+    line.push_word(word);
+    line.push_decimal(a);
+    line.push(b' ');
+    line.push_decimal(b);
+    line.push(b')');
+    line
 }
 
+#[tactic(auto, unfolding(model::specs::Sheet::laid_text, model::specs::Show::text, model::specs::Show::text_from))]
 pub fn laid_line(n: u8, k: u8) -> Line
-    ensures { Holds result (laid_text n k) }
+    ensures { result ≡ laid_text n k }
 {
-    let open = put_word(empty(), b"(laid ");
-    let mut bytes = open.bytes;
-    let len = write_two(&mut bytes, open.len, n as u32, k as u32);
-    Line { bytes, len }
+    paired_line(b"(laid ", u32::from(n), u32::from(k))
 }
 
-pub fn ran_line(taken: u32, passed: u32) -> Line
-    ensures { Holds result (ran_text (ran taken passed)) }
+#[tactic(auto, unfolding(model::specs::Sheet::ran_text, model::specs::Show::text, model::specs::Show::text_from))]
+pub fn ran_line(steps: Ran) -> Line
+    ensures { result ≡ ran_text (ran steps.taken steps.passed) }
 {
-    let open = put_word(empty(), b"(ran ");
-    let mut bytes = open.bytes;
-    let len = write_two(&mut bytes, open.len, taken, passed);
-    Line { bytes, len }
+    paired_line(b"(ran ", steps.taken, steps.passed)
 }
 
+#[tactic(auto, unfolding(model::specs::Sheet::played_text, model::specs::Show::text, model::specs::Show::text_from))]
 pub fn played_line(rounds: u32, decided: u32) -> Line
-    ensures { Holds result (played_text (played rounds decided)) }
+    ensures { result ≡ played_text (played rounds decided) }
 {
-    let open = put_word(empty(), b"(played ");
-    let mut bytes = open.bytes;
-    let len = write_two(&mut bytes, open.len, rounds, decided);
-    Line { bytes, len }
+    paired_line(b"(played ", rounds, decided)
 }
 
+#[tactic(auto, using(line_writer::proofs::Decimals::lengths), unfolding(model::specs::Sheet::proposed_text, model::specs::Show::text, model::specs::Show::text_from))]
 pub fn proposed_line(station: u8, figure: i32) -> Line
-    ensures { Holds result (proposed_text station figure) }
+    ensures { result ≡ proposed_text station figure }
 {
-    let open = put_word(empty(), b"(proposed ");
-    let mut bytes = open.bytes;
-    let numbered = write_decimal(&mut bytes, open.len, station as u32);
-    let spaced = write_byte(&mut bytes, numbered, b' ');
-    let figured = write_figure(&mut bytes, spaced, figure);
-    let len = write_byte(&mut bytes, figured, b')');
-    Line { bytes, len }
+    let mut line = Line::new();
+    line.push_word(b"(proposed ");
+    line.push_decimal(u32::from(station));
+    line.push(b' ');
+    line.push_figure(figure);
+    line.push(b')');
+    line
 }

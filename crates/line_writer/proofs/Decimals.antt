@@ -50,3 +50,6 @@ pub length_some : (x : ℕ) → x < 4294967296 → 1 ≤ length (decimal x)
 length_some x h =
     ⊎_elim (λ (l : x < 10). omega (arith, length_one x l))
     (λ (l : 10 ≤ x). omega (arith, length_more x l h)) (below_ten x)
+
+-- how long a text of several pieces can be
+pub ruleset lengths = (length-append, length_any, length_signed)

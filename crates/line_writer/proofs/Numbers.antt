@@ -1,7 +1,7 @@
 -- Decimal numbers with their last digit apart, and figures by their sign.
 -- Relies on the model's `decimal` and `signed`; the proofs of numbers rely on it.
-use Rattle.model.proofs.Kit.{◌≡◌, refl, sym, ap, ◌∙◌, true, false, List, [], ◌∷◌, ◌++◌, append_assoc, ℕ, ◌+◌, ◌≤◌, ◌<◌, ◌/◌, ◌%◌, ℤ}
-use Rattle.model.proofs.Kit.{pos, negsuc, lt_z, ltb-true, length, length-append, arith}
+use Rattle.model.proofs.Kit.{◌≡◌, refl, sym, ap, ◌∙◌, true, false, List, [], ◌∷◌, ◌++◌, append_assoc, ℕ, ◌+◌, ◌≤◌, ◌<◌, ◌/◌}
+use Rattle.model.proofs.Kit.{◌%◌, ℤ, pos, negsuc, lt_z, ltb-true, length, length-append, arith}
 use lib.IntN.{nat_abs}
 use Rattle.model.specs.Show.{text, text_from, decimal, signed}
 use Rattle.model.proofs.Basics.Decimals.{decimal_more}

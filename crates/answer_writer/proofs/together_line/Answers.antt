@@ -1,9 +1,0 @@
--- `together_line` meets its contract: its word and one number.
-use Rattle.model.specs.Show.{text, text_from}
-use Rattle.model.specs.Sheet.{together_text}
-use Rattle.answer_writer.specs.Texts.{numbered_text}
-use Rattle.answer_writer.proofs.together_line.Goals as goal
-
-pub returns : goal.returns
-unfolding together_text numbered_text text text_from
-returns c = search
