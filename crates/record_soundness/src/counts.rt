@@ -16,7 +16,7 @@ pub fn met_sound(s: &[u8], at: usize, position: u8) -> bool
     requires { at + 24 ≤ length s.now }
     ensures { result ≡ leb (met_pair at s.now) position }
 {
-    pair_at(s, at + 6) <= position as u16
+    pair_at(s, at + 6) <= u16::from(position)
 }
 
 // A turn is a write and n reads. The turns behind a station are three for each island that it has passed and those of its
@@ -26,14 +26,15 @@ pub fn steps_sound(f: Record, n: usize) -> bool
     requires { (n ≤ 16) × (f.phase ≤ 8) × (f.phase ≡ 0 → f.steps ≡ 0) }
     ensures { result ≡ steps_kept n f.steps (record_value f) }
 {
-    let steps = f.steps as usize;
+    let steps = usize::from(f.steps);
     if steps == 0 {
         return true;
     }
-    let turns = 3 * f.island as usize + (f.phase as usize - 1) / 2;
+    let turns = 3 * usize::from(f.island) + (usize::from(f.phase) - 1) / 2;
     let behind = turns * (n + 1);
     if is_collecting(f) {
-        return steps <= behind + 1 + f.position as usize;
+        steps <= behind + 1 + usize::from(f.position)
+    } else {
+        steps <= behind
     }
-    steps <= behind
 }

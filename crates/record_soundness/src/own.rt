@@ -16,26 +16,14 @@ use model::{Record, Register};
 fn same_flag(mark: u8, flag: u8) -> bool
     ensures { result ≡ eqb (flag_number (flag_of mark)) (flag_number (flag_of flag)) }
 {
-    if mark < 2 {
-        return flag < 2;
-    }
-    2 <= flag
+    (mark < 2) == (flag < 2)
 }
 
 // The register holds this flag, island and figure.
 fn held(r: Register, flag: u8, island: u8, figure: i32) -> bool
     ensures { result ≡ same_register (register_value r) (filled (flag_of flag) island figure) }
 {
-    if r.mark == 0 {
-        return false;
-    }
-    if !same_flag(r.mark, flag) {
-        return false;
-    }
-    if r.island != island {
-        return false;
-    }
-    same(r.figure, figure)
+    r.mark != 0 && same_flag(r.mark, flag) && r.island == island && same(r.figure, figure)
 }
 
 // The register of station index i in a row of n.
@@ -51,17 +39,9 @@ fn own_in_m(s: &[u8], n: usize, i: usize, f: Record) -> bool
     requires { (16 + 8 * i ≤ length s.now) × (n ≤ 16) × (i < n) }
     ensures { result ≡ own_kept n i s.now (reading_of turn_m f) }
 {
-    if !held(column(s, n, 0, i), 1, f.island, f.carried) {
-        return false;
-    }
-    let position = f.position as usize;
-    if position <= i {
-        return true;
-    }
-    if f.seen == 0 {
-        return false;
-    }
-    !pair_above(f.island, f.carried, f.highest, f.best)
+    held(column(s, n, 0, i), 1, f.island, f.carried)
+        && (usize::from(f.position) <= i
+            || f.seen != 0 && !pair_above(f.island, f.carried, f.highest, f.best))
 }
 
 // Phase 4: the carried figure, and the best figure no lower.
@@ -69,18 +49,9 @@ fn own_in_a(s: &[u8], n: usize, k: usize, i: usize, f: Record) -> bool
     requires { (length s.now ≡ board_length n k) × (n ≤ 16) × (k ≤ 64) × (i < n) × (f.island < k) }
     ensures { result ≡ own_kept n i s.now (reading_of turn_a f) }
 {
-    let c = f.island as usize;
-    if !held(column(s, n, 1 + 2 * c, i), 1, 0, f.carried) {
-        return false;
-    }
-    let position = f.position as usize;
-    if position <= i {
-        return true;
-    }
-    if f.seen == 0 {
-        return false;
-    }
-    !above(f.carried, f.best)
+    let row = 1 + 2 * usize::from(f.island);
+    held(column(s, n, row, i), 1, 0, f.carried)
+        && (usize::from(f.position) <= i || f.seen != 0 && !above(f.carried, f.best))
 }
 
 // Phase 6: the flag and the carried figure.
@@ -88,29 +59,19 @@ fn own_in_b(s: &[u8], n: usize, k: usize, i: usize, f: Record) -> bool
     requires { (length s.now ≡ board_length n k) × (n ≤ 16) × (k ≤ 64) × (i < n) × (f.island < k) }
     ensures { result ≡ own_kept n i s.now (reading_of (turn_b (flag_of f.flag)) f) }
 {
-    let c = f.island as usize;
-    if !held(column(s, n, 2 + 2 * c, i), f.flag, 0, f.carried) {
-        return false;
-    }
-    let position = f.position as usize;
-    if position <= i {
-        return true;
-    }
-    f.seen != 0
+    let row = 2 + 2 * usize::from(f.island);
+    held(column(s, n, row, i), f.flag, 0, f.carried)
+        && (usize::from(f.position) <= i || f.seen != 0)
 }
 
 pub fn own_sound(s: &[u8], n: usize, k: usize, i: usize, f: Record) -> bool
     requires { (length s.now ≡ board_length n k) × (n ≤ 16) × (k ≤ 64) × (i < n) × (f.island < k) }
     ensures { result ≡ own_kept n i s.now (record_value f) }
 {
-    if f.phase == READ_M {
-        return own_in_m(s, n, i, f);
+    match f.phase {
+        READ_M => own_in_m(s, n, i, f),
+        READ_A => own_in_a(s, n, k, i, f),
+        READ_B => own_in_b(s, n, k, i, f),
+        _ => true,
     }
-    if f.phase == READ_A {
-        return own_in_a(s, n, k, i, f);
-    }
-    if f.phase == READ_B {
-        return own_in_b(s, n, k, i, f);
-    }
-    true
 }

@@ -18,13 +18,7 @@ fn idle_sound(s: &[u8], at: usize) -> bool
     requires { at + 24 ≤ length s.now }
     ensures { result ≡ zeros (part at 24 s.now) }
 {
-    if !zero_cell(s, at) {
-        return false;
-    }
-    if !zero_cell(s, at + 8) {
-        return false;
-    }
-    zero_cell(s, at + 16)
+    zero_cell(s, at) && zero_cell(s, at + 8) && zero_cell(s, at + 16)
 }
 
 fn record_sound(s: &[u8], at: usize, n: usize, k: usize, i: usize) -> bool
@@ -34,34 +28,23 @@ fn record_sound(s: &[u8], at: usize, n: usize, k: usize, i: usize) -> bool
     if s[at] == IDLE {
         return idle_sound(s, at);
     }
-    if !zero_pair(s, at + 22) {
-        return false;
-    }
     let f = record_at(s, at);
-    if !met_sound(s, at, f.position) {
-        return false;
-    }
-    if !fields_sound(f, n, k) {
-        return false;
-    }
-    if !steps_sound(f, n) {
-        return false;
-    }
-    own_sound(s, n, k, i, f)
+    zero_pair(s, at + 22)
+        && met_sound(s, at, f.position)
+        && fields_sound(f, n, k)
+        && steps_sound(f, n)
+        && own_sound(s, n, k, i, f)
 }
 
 pub fn records_sound(s: &[u8], n: usize, k: usize) -> bool
     requires { (length s.now ≡ board_length n k) × (n ≤ 16) × (k ≤ 64) × (0 < n) × (0 < k) }
     ensures { result ≡ every n (λ i. record_sound n k i s.now (record_of n k i s.now)) }
 {
-    let mut at = record_offset(n, k, 0);
-    let mut i: usize = 0;
-    while i < n {
-        if !record_sound(s, at, n, k, i) {
+    let first = record_offset(n, k, 0);
+    for i in 0..n {
+        if !record_sound(s, first + 24 * i, n, k, i) {
             return false;
         }
-        at += 24;
-        i += 1;
     }
     true
 }

@@ -2,7 +2,7 @@
 -- write and what it has read. Of filled registers met: what it has read.
 -- Relies on soundness's bounds; the proofs of `steps_sound` and `met_sound` rely on it.
 use Rattle.model.proofs.Kit.{◌≡◌, refl, sym, ap, ◌∙◌, Bool, true, false, cond, ℕ, zero, suc, ◌+◌, ◌-◌, ◌≤◌, ◌/◌, ◌*◌}
-use Rattle.model.proofs.Kit.{◌<◌, ◌&&◌, List, length, leb, leb→le, eqb, eqb→eq, T, le-leb, mul-le-mul, ℕ_discrete, arith}
+use Rattle.model.proofs.Kit.{◌<◌, ◌&&◌, List, length, leb, leb→le, eqb, eqb→eq, T, le-leb, ℕ_discrete, arith}
 use Rattle.model.specs.declared.Record.{Record}
 use Rattle.model.specs.Layout.{writing_of, reading_of, of_phase, record_value, lay_record, met_at, gap_at}
 use Rattle.model.specs.Bytes.{byte, number, part, zeros}
@@ -66,10 +66,6 @@ module _ (n : ℕ) (f : Record) where
   unfolding steps_kept
   kept_none e = sym (le-leb f.steps (most_steps n (record_value f)) (omega arith))
 
-  -- and what the code multiplies and adds is small
-  pub behind_small : n ≤ 16 → f.phase ≤ 8 → f.island < 256 → behind f.phase ≤ 13056
-  behind_small hn h c = mul-le-mul {n₂ = 768} {m₂ = 17} (omega arith) (omega arith)
-
 -- ---- what a collect has met
 
 module _ (f : Record) where
@@ -101,9 +97,6 @@ module _ (f : Record) where
 -- ---- with the byte behind it
 
 module _ (b : List ℕ) (at : ℕ) where
-  pub pair_kept : (x p : ℕ) → x ≡ met_pair at b → leb x p ≡ leb (met_pair at b) p
-  pair_kept x p e = ap (λ (k : ℕ). leb k p) e
-
   module _ (h : at + 24 ≤ length b) where
     pub pair_is : met_pair at b ≡ byte b (at + met_at) + 256 * byte b (at + gap_at)
     unfolding number listed

@@ -1,10 +1,10 @@
 -- The station's own register: where it stands, and what it holds against what the record says it wrote.
 -- Relies on the listing's values and their layout; the proofs of held and of the three turns rely on it.
-use Rattle.model.proofs.Kit.{◌≡◌, refl, sym, ap, ◌∙◌, Bool, true, false, ◌&&◌, not, List, ℕ, zero, suc, ◌+◌, ◌≤◌, ◌<◌}
-use Rattle.model.proofs.Kit.{◌*◌, le-leb, lt-leb, lt-ltb, le-ltb, eq-eqb, ne_eqb, eqb, leb, ltb, length, to_z-of_z, w32}
+use Rattle.model.proofs.Kit.{◌≡◌, refl, sym, ap, ◌∙◌, Bool, true, false, cond, ◌&&◌, not, ℕ_discrete, List, ℕ, zero, suc, ◌+◌, ◌≤◌, ◌<◌}
+use Rattle.model.proofs.Kit.{◌*◌, lt-ltb, le-ltb, eq-eqb, ne_eqb, eqb, ltb, length, to_z-of_z, w32}
 use Rattle.model.proofs.Kit.{to_z, of_z, SFits, lt_of_not-le, arith}
 use native.Mathlib.Decide.{dec_le}
-use borrow.Author.Tests.{not-true, not-false}
+use mathlib.Core.Bool.{beq}
 use Rattle.model.specs.declared.Record.{Record}
 use Rattle.model.specs.declared.Register.{Register}
 use Rattle.model.specs.Bytes.{part}
@@ -28,20 +28,21 @@ high zero h = absurd (omega arith)
 high (suc zero) h = absurd (omega arith)
 high (suc (suc m)) h = refl
 
-module _ (m g : ℕ) where
-  pub flag_low : m < 2 → ltb g 2 ≡ eqb (flag_number (flag_of m)) (flag_number (flag_of g))
-  flag_low h = go (dec_le 2 g) ∙ ap (λ (x : ℕ). eqb x (flag_number (flag_of g))) (sym (low m h))
-    where
-      go : Dec (2 ≤ g) → ltb g 2 ≡ eqb 1 (flag_number (flag_of g))
-      go (yes l) = le-ltb g 2 l ∙ ap (eqb 1) (sym (high g l))
-      go (no f) = lt-ltb g 2 (lt_of_not-le f) ∙ ap (eqb 1) (sym (low g (lt_of_not-le f)))
+flag_by : (m : ℕ) → flag_number (flag_of m) ≡ cond (ltb m 2) 1 2
+flag_by m = go (dec_le 2 m)
+  where
+    go : Dec (2 ≤ m) → flag_number (flag_of m) ≡ cond (ltb m 2) 1 2
+    go (yes l) = high m l ∙ ap (λ (t : Bool). cond t 1 2) (sym (le-ltb m 2 l))
+    go (no f) = low m (lt_of_not-le f) ∙ ap (λ (t : Bool). cond t 1 2) (sym (lt-ltb m 2 (lt_of_not-le f)))
 
-  pub flag_high : 2 ≤ m → leb 2 g ≡ eqb (flag_number (flag_of m)) (flag_number (flag_of g))
-  flag_high h = go (dec_le 2 g) ∙ ap (λ (x : ℕ). eqb x (flag_number (flag_of g))) (sym (high m h))
-    where
-      go : Dec (2 ≤ g) → leb 2 g ≡ eqb 2 (flag_number (flag_of g))
-      go (yes l) = le-leb 2 g l ∙ ap (eqb 2) (sym (high g l))
-      go (no f) = lt-leb 2 g (lt_of_not-le f) ∙ ap (eqb 2) (sym (low g (lt_of_not-le f)))
+one_side : (x y : Bool) → beq x y ≡ eqb (cond x 1 2) (cond y 1 2)
+one_side true true = refl
+one_side true false = refl
+one_side false true = refl
+one_side false false = refl
+
+pub same_side : (m g : ℕ) → beq (ltb m 2) (ltb g 2) ≡ eqb (flag_number (flag_of m)) (flag_number (flag_of g))
+same_side m g = one_side (ltb m 2) (ltb g 2) ∙ (λ i. eqb (sym (flag_by m) i) (sym (flag_by g) i))
 
 -- ---- what a register holds
 marked : (m k : ℕ) (v : Figure) (g : Flag) (j : ℕ) (w : Figure) → (m ≡ 0 → ⊥)
@@ -51,34 +52,26 @@ unfolding same_register
 marked zero k v g j w h = absurd (h refl)
 marked (suc m) k v g j w h = refl
 
-module _ (r : Register) (g j : ℕ) (w : Figure) where
-  pub held_empty : r.mark ≡ 0 → false ≡ same_register (register_value r) (filled (flag_of g) j w)
-  unfolding register_value same_register
-  held_empty e = ap (λ (m : ℕ). same_register (marked_by m r.island r.figure) (filled (flag_of g) j w)) (sym e)
+-- the tests of the code one after another
+pub held_tests : (r : Register) (g j : ℕ) (w : Figure)
+    → not (eqb r.mark 0) && eqb (flag_number (flag_of r.mark)) (flag_number (flag_of g)) && eqb r.island j
+    && same_figure r.figure w ≡ same_register (register_value r) (filled (flag_of g) j w)
+unfolding register_value same_register
+held_tests r g j w = go (ℕ_discrete r.mark 0)
+  where
+    fields : Bool → Bool
+    fields t = not t && eqb (flag_number (flag_of r.mark)) (flag_number (flag_of g)) && eqb r.island j && same_figure r.figure w
 
-  module _ (m : r.mark ≡ 0 → ⊥) (a : Bool) (e : a ≡ eqb (flag_number (flag_of r.mark)) (flag_number (flag_of g))) where
-    held_form : a && eqb r.island j && same_figure r.figure w
-        ≡ same_register (register_value r) (filled (flag_of g) j w)
-    unfolding register_value
-    held_form =
-        ap (λ (t : Bool). t && eqb r.island j && same_figure r.figure w) e
-        ∙ marked r.mark r.island r.figure (flag_of g) j w m
+    go : Dec (r.mark ≡ 0) → fields (eqb r.mark 0) ≡ same_register (register_value r) (filled (flag_of g) j w)
+    go (yes e) =
+        ap fields (eq-eqb r.mark 0 e)
+        ∙ ap (λ (m : ℕ). same_register (marked_by m r.island r.figure) (filled (flag_of g) j w)) (sym e)
+    go (no h) = ap fields (ne_eqb r.mark 0 h) ∙ marked r.mark r.island r.figure (flag_of g) j w h
 
-    pub other_flag : not a ≡ true → false ≡ same_register (register_value r) (filled (flag_of g) j w)
-    other_flag h = sym (λ q. not-true a h q && eqb r.island j && same_figure r.figure w) ∙ held_form
-
-    module _ (h : not a ≡ false) where
-      pub other_island : (r.island ≡ j → ⊥) → false ≡ same_register (register_value r) (filled (flag_of g) j w)
-      other_island f =
-          sym (λ q. not-false a h q && ne_eqb r.island j f q && same_figure r.figure w) ∙ held_form
-
-      -- the code's test of the figures that the bits stand for
-      pub by_figure : r.island ≡ j → (s : Bool) → SFits w32 r.figure → SFits w32 w
-          → s ≡ same_figure (to_z w32 (of_z w32 r.figure)) (to_z w32 (of_z w32 w))
-          → s ≡ same_register (register_value r) (filled (flag_of g) j w)
-      by_figure k s x y p =
-          p ∙ (λ q. same_figure (to_z-of_z x q) (to_z-of_z y q))
-          ∙ sym (λ q. not-false a h q && eq-eqb r.island j k q && same_figure r.figure w) ∙ held_form
+-- the code's test of the figures that the bits stand for
+pub same_bits : (x y : Figure) (s : Bool) → SFits w32 x → SFits w32 y
+    → s ≡ same_figure (to_z w32 (of_z w32 x)) (to_z w32 (of_z w32 y)) → s ≡ same_figure x y
+same_bits x y s h l p = p ∙ (λ q. same_figure (to_z-of_z h q) (to_z-of_z l q))
 
 -- The register that the code read is the one of the record's turn t, and it was compared with what the record says it
 -- wrote: flag g and island j beside the carried figure.
@@ -100,17 +93,18 @@ module _ (n i : ℕ) (b : List ℕ) (f : Record) (r : Register) (a : Bool) (h : 
   unfolding array row_of entry flag_of
   written_m = written turn_m n i b f r 0 1 f.island a h refl refl
 
-  pub written_a : r ≡ read_register (part (8 + 8 * (n * (1 + 2 * f.island) + i)) 8 b)
-      → a ≡ same_register (register_value r) (filled (flag_of 1) 0 (to_z w32 (of_z w32 f.carried)))
-      → a ≡ own_written n i b (reading_of turn_a f)
-  unfolding array row_of entry flag_of
-  written_a = written turn_a n i b f r (1 + 2 * f.island) 1 0 a h refl refl
+  module _ (c : ℕ) (place : c ≡ f.island) where
+    pub written_a : r ≡ read_register (part (8 + 8 * (n * (1 + 2 * c) + i)) 8 b)
+        → a ≡ same_register (register_value r) (filled (flag_of 1) 0 (to_z w32 (of_z w32 f.carried)))
+        → a ≡ own_written n i b (reading_of turn_a f)
+    unfolding array row_of entry flag_of
+    written_a = written turn_a n i b f r (1 + 2 * c) 1 0 a h (ap (λ (c : ℕ). 1 + 2 * c) place) refl
 
-  pub written_b : r ≡ read_register (part (8 + 8 * (n * (2 + 2 * f.island) + i)) 8 b)
-      → a ≡ same_register (register_value r) (filled (flag_of f.flag) 0 (to_z w32 (of_z w32 f.carried)))
-      → a ≡ own_written n i b (reading_of (turn_b (flag_of f.flag)) f)
-  unfolding array row_of entry
-  written_b = written (turn_b (flag_of f.flag)) n i b f r (2 + 2 * f.island) f.flag 0 a h refl refl
+    pub written_b : r ≡ read_register (part (8 + 8 * (n * (2 + 2 * c) + i)) 8 b)
+        → a ≡ same_register (register_value r) (filled (flag_of f.flag) 0 (to_z w32 (of_z w32 f.carried)))
+        → a ≡ own_written n i b (reading_of (turn_b (flag_of f.flag)) f)
+    unfolding array row_of entry
+    written_b = written (turn_b (flag_of f.flag)) n i b f r (2 + 2 * c) f.flag 0 a h (ap (λ (c : ℕ). 2 + 2 * c) place) refl
 
 -- where that register stands
 module _ (n k i c : ℕ) (b : List ℕ) (e : length b ≡ board_length n k) (h : i < n) where

@@ -1,14 +1,15 @@
 -- What a collect that has passed the station's own register has seen, turn by turn, and the record at its phase.
 -- Relies on the listing's values, their layout and the order of figures by its name; the proofs of own rely on it.
 use Rattle.model.proofs.Kit.{◌≡◌, refl, sym, ap, ◌∙◌, Bool, true, false, ◌&&◌, not, List, ℕ, zero, suc, ◌≤◌, ◌<◌}
-use Rattle.model.proofs.Kit.{lt-ltb, le-ltb, eqb, ltb, to_z-of_z, w32, to_z, of_z, SFits}
+use Rattle.model.proofs.Kit.{lt-ltb, le-ltb, le-leb, eqb, ltb, leb, arith, to_z-of_z, w32, to_z, of_z, SFits}
 use lib.Dec.{eqb-suc-zero}
 use Rattle.model.specs.declared.Record.{Record}
 use Rattle.model.specs.Figure.{Figure, figures, above}
 use Rattle.model.specs.Listing.{flag_of, Turn, turn_m, turn_a, turn_b, Flag, pair_above}
 use Rattle.model.specs.Layout.{seen_of, writing_of, reading_of, of_phase, record_value}
 use Rattle.model.specs.Sound.{own_written, own_seen, own_passed}
-use Rattle.record_soundness.proofs.Laws.Chains.{no, yes, implies_no, implies_yes}
+use Rattle.record_soundness.specs.Groups.{own_kept}
+use Rattle.record_soundness.proofs.Laws.Chains.{and_then, and_else, implies_no, implies_yes}
 
 -- ---- what the collect has seen
 module _ (t : Turn) (f : Record) (i : ℕ) where
@@ -68,24 +69,21 @@ module _ (f : Record) (i : ℕ) (past : i < f.position) where
 
 -- ---- both clauses, after the test of the own register
 module _ (t : Turn) (n i : ℕ) (b : List ℕ) (f : Record) (a : Bool) (e : a ≡ own_written n i b (reading_of t f)) where
-  pub not_written : not a ≡ true → false ≡ own_written n i b (reading_of t f) && own_passed i (reading_of t f)
-  not_written h = sym (λ q. no a _ e h q && own_passed i (reading_of t f))
+  pub not_written : a ≡ false → a ≡ own_kept n i b (reading_of t f)
+  not_written = and_else _ _ a e
 
-  module _ (h : not a ≡ false) where
-    pub seen_as : (r : Bool) → r ≡ own_passed i (reading_of t f)
-        → r ≡ own_written n i b (reading_of t f) && own_passed i (reading_of t f)
-    seen_as r p = p ∙ sym (λ q. yes a _ e h q && own_passed i (reading_of t f))
+  module _ (h : a ≡ true) where
+    pub seen_as : (r : Bool) → r ≡ own_passed i (reading_of t f) → r ≡ own_kept n i b (reading_of t f)
+    seen_as = and_then _ _ a e h
 
-    pub not_passed : f.position ≤ i → true ≡ own_written n i b (reading_of t f) && own_passed i (reading_of t f)
-    not_passed p = seen_as true (before_own t f i p)
+    pub not_passed : (p : ℕ) → p ≡ f.position → p ≤ i → leb p i ≡ own_kept n i b (reading_of t f)
+    not_passed p q l = le-leb p i l ∙ seen_as true (before_own t f i (omega arith))
 
-    pub nothing_seen : i < f.position → f.seen ≡ 0
-        → false ≡ own_written n i b (reading_of t f) && own_passed i (reading_of t f)
+    pub nothing_seen : i < f.position → f.seen ≡ 0 → not (eqb f.seen 0) ≡ own_kept n i b (reading_of t f)
     unfolding own_seen seen_of
     nothing_seen p s =
-        seen_as false
-        (ap (λ (s : ℕ). own_seen t f.island f.carried (seen_of s f.highest f.best)) (sym s)
-        ∙ past_own t f i p)
+        seen_as _ (ap (λ (s : ℕ). not (eqb s 0)) s
+        ∙ ap (λ (s : ℕ). own_seen t f.island f.carried (seen_of s f.highest f.best)) (sym s) ∙ past_own t f i p)
 
 -- ---- the record at its phase
 module _ (n i : ℕ) (b : List ℕ) (f : Record) where

@@ -3,7 +3,7 @@
 -- Relies on the layout, the model's laws of a record's parts and codec's of reads; the proofs of records rely on it.
 use Rattle.model.proofs.Kit.{◌≡◌, refl, sym, ap, subst, ◌∙◌, Bool, true, false, ◌&&◌, List, [], ◌∷◌, ℕ, suc, ◌+◌, ◌≤◌}
 use Rattle.model.proofs.Kit.{◌<◌, le-ltb, leb, leb→le, le-leb, eq-eqb, eqb→eq, eqb, lit≤, T, length, replicate, w8, w64, Fits, mul-le-mul}
-use Rattle.model.proofs.Kit.{not, lit<, add-zero, lt_of_not-le, arith}
+use Rattle.model.proofs.Kit.{◌*◌, lit<, add-zero, lt_of_not-le, arith}
 use native.Mathlib.Decide.{dec_le}
 use Rattle.model.specs.declared.Record.{Record}
 use Rattle.model.specs.Bytes.{byte, number, part, zeros}
@@ -17,14 +17,15 @@ use Rattle.model.proofs.Board.Codec.{length_record, steps_back}
 use Rattle.model.proofs.Basics.Numbers.{Bytes, number_digits}
 use Rattle.model.proofs.Basics.Tests.{both, and_false, and_l, and_r, and_i, true-T, T_true, no-T, zeros_is}
 use Rattle.model.proofs.Basics.Tests.{implies_use}
-use Rattle.record_soundness.specs.Groups.{laid, met_pair}
+use Rattle.record_soundness.specs.Groups.{laid, met_pair, own_kept}
+use Rattle.record_soundness.proofs.Laws.Chains.{decided, regrouped}
 use Rattle.record_soundness.proofs.Laws.Counts.{most_met_lem, pair_low, pair_high}
 use Rattle.model.proofs.Basics.Parts.{part-Bytes, listed, part_listed}
 use Rattle.model.proofs.Basics.Splices.{length_part, byte_part}
 use Rattle.model.proofs.Board.Canon.{laid_fields}
 use Rattle.model.proofs.Board.Places.{record_inside}
 use Rattle.model.proofs.Board.Fresh.{zero_sound}
-use Rattle.figures.proofs.Laws.Zeros.{and_true, first_fails, second_decides}
+use Rattle.figures.proofs.Laws.Zeros.{and_true, zeros_join}
 use Rattle.codec.proofs.Laws.Reads.{part_part}
 
 -- ---- one clause that fails
@@ -100,23 +101,11 @@ unfolding Bytes
 all_bytes [] h = tt
 all_bytes (x ∷ xs) h = ((h 0).fits, all_bytes xs (λ j. h (suc j)))
 
--- ---- a record's 24 bytes as three cells, each with what a test of it answered
-module _ (b : List ℕ) (at : ℕ) (first second : Bool) (one : first ≡ zeros (part at 8 b)) where
-  pub first_cell : not first ≡ true → false ≡ zeros (part at 24 b)
-  first_cell e = first_fails b at 24 8 first one e (omega arith)
-
-  module _ (two : second ≡ zeros (part (at + 8) 8 b)) (e : not first ≡ false) where
-    pub second_cell : not second ≡ true → false ≡ zeros (part at 24 b)
-    second_cell q =
-        second_decides b at 24 8 first one e false (at + 8) 16
-        (first_fails b (at + 8) 16 8 second two q (omega arith)) refl (omega arith)
-
-    pub third_cell : not second ≡ false → (third : Bool) → third ≡ zeros (part (at + 16) 8 b)
-        → third ≡ zeros (part at 24 b)
-    third_cell q third three =
-        second_decides b at 24 8 first one e third (at + 8) 16
-        (second_decides b (at + 8) 16 8 second two q third (at + 16) 8 three (omega arith) (omega arith)) refl
-        (omega arith)
+-- ---- a record's 24 bytes as three cells
+pub three_cells : (b : List ℕ) (at : ℕ)
+    → zeros (part at 8 b) && zeros (part (at + 8) 8 b) && zeros (part (at + 16) 8 b) ≡ zeros (part at 24 b)
+three_cells b at =
+    sym (zeros_join b at 16 8 ∙ ap (λ (x : Bool). x && zeros (part (at + 16) 8 b)) (zeros_join b at 8 8))
 
 -- ---- the record of station index i, which stands at `at`
 pub record Placed (n k i at : ℕ) (b : List ℕ) : Type 0 where
@@ -184,7 +173,7 @@ module _ {n k i at : ℕ} {b : List ℕ} (p : Placed n k i at b) where
       ap zeros (part_listed (at + gap_at) gap b (omega (arith, record_place)))
       ∙ sym (and_true _) ∙ ap (λ (x : ℕ). eqb (byte b x) 0) (add-zero (at + gap_at))
 
-  pub tail_fails : zeros (part (at + tail_at) tail b) ≡ false → false ≡ record_sound n k i b (record_of n k i b)
+  tail_fails : zeros (part (at + tail_at) tail b) ≡ false → false ≡ record_sound n k i b (record_of n k i b)
   unfolding rest_zero
   tail_fails q =
       rest (ap (λ (x : Bool). zeros (part gap_at gap (record_of n k i b)) && x)
@@ -225,7 +214,7 @@ module _ {n k i at : ℕ} {b : List ℕ} (p : Placed n k i at b) where
       most_is : fields_sound n k f.phase (lay_record f) ≡ true → most_met (record_value f) ≡ f.position
       most_is q = most_met_lem f (phase_inside n k f q) (collect_rests n k f q)
 
-    pub pair_fails : leb (met_pair at b) f.position ≡ false → false ≡ record_sound n k i b (record_of n k i b)
+    pair_fails : leb (met_pair at b) f.position ≡ false → false ≡ record_sound n k i b (record_of n k i b)
     unfolding record_sound rest_zero met_kept
     pair_fails e =
         sym (no-T _ (λ (t : T (record_sound n k i b (record_of n k i b))).
@@ -244,11 +233,11 @@ module _ {n k i at : ℕ} {b : List ℕ} (p : Placed n k i at b) where
       front : byte b (at + gap_at) ≡ 0
       front = (pair_low b at record_place f.position position_low pass).0
 
-      pub fields_fail : fields_sound n k f.phase (lay_record f) ≡ false
+      fields_fail : fields_sound n k f.phase (lay_record f) ≡ false
           → false ≡ record_sound n k i b (record_of n k i b)
       fields_fail q = fails (sym (fields_is front) ∙ q)
 
-      pub steps_fail : steps_kept n f.steps (record_value f) ≡ false
+      steps_fail : steps_kept n f.steps (record_value f) ≡ false
           → false ≡ record_sound n k i b (record_of n k i b)
       unfolding record_sound
       steps_fail q =
@@ -262,7 +251,7 @@ module _ {n k i at : ℕ} {b : List ℕ} (p : Placed n k i at b) where
           le-leb f.met (most_met (record_value f))
           (omega (arith, met_read_lem, most_is front q, (pair_low b at record_place f.position position_low pass).1))
 
-      pub record_form : (a : Bool) → fields_sound n k f.phase (lay_record f) ≡ true
+      record_form : (a : Bool) → fields_sound n k f.phase (lay_record f) ≡ true
           → steps_kept n f.steps (record_value f) ≡ true
           → a ≡ own_written n i b (record_value f) && own_passed i (record_value f)
           → a ≡ record_sound n k i b (record_of n k i b)
@@ -273,11 +262,24 @@ module _ {n k i at : ℕ} {b : List ℕ} (p : Placed n k i at b) where
           ∙ (λ s. let g = same s in (sym q ∙ fields_is front) s && own_written n i b (record_value g)
           && own_passed i (record_value g) && steps_kept n g.steps (record_value g) && met_kept g.met (record_value g))
 
--- the next record
-pub record_next : (n k i at : ℕ) → at ≡ record_at n k i → at + 24 ≡ record_at n k (i + 1)
+  -- the tests of the code one after another
+  pub record_tests : ((j : ℕ) → Fits w8 (byte b j)) → (f : Record) → f ≡ read_record (part at 24 b)
+      → zeros (part (at + tail_at) tail b) && leb (met_pair at b) f.position && fields_sound n k f.phase (lay_record f)
+      && steps_kept n f.steps (record_value f) && own_kept n i b (record_value f)
+      ≡ record_sound n k i b (record_of n k i b)
+  record_tests bytes f read =
+      regrouped (zeros (part (at + tail_at) tail b)) (leb (met_pair at b) f.position)
+      (fields_sound n k f.phase (lay_record f)) (steps_kept n f.steps (record_value f)) (own_kept n i b (record_value f))
+      ∙ decided _ _ _ tail_fails (λ back. decided _ _ _ (pair_fails bytes f read back)
+      (λ pass. decided _ _ _ (fields_fail bytes f read back pass)
+      (λ sound. decided _ _ _ (steps_fail bytes f read back pass)
+      (λ few. record_form bytes f read back pass _ sound few refl))))
+
+-- the record of index i, from the place of the first
+pub record_next : (n k i at : ℕ) → at ≡ record_at n k 0 → at + 24 * i ≡ record_at n k i
 unfolding record_at
 record_next n k i at e = omega arith
 
-pub next_fits : (n k i at : ℕ) → at ≡ record_at n k i → n ≤ 16 → k ≤ 64 → i < n → Fits w64 (at + 24)
+pub next_fits : (n k i at : ℕ) → at ≡ record_at n k 0 → n ≤ 16 → k ≤ 64 → i < n → Fits w64 (at + 24 * i)
 unfolding record_at
 next_fits n k i at e hn hk h = record { fits = omega (arith, mul-le-mul hn hk) }

@@ -1,24 +1,19 @@
--- `collect_zero`: each return by the tests that led there.
-use Rattle.std.proofs.Common.{rules}
-use Rattle.model.proofs.Kit.{true, eq-eqb, ne_eqb}
+-- `collect_zero`: the best figure is zero where its bytes are.
+use Rattle.std.proofs.Common.{arith, rules}
+use Rattle.std.proofs.lemmas.Grind.{common_steps}
 use Rattle.model.specs.Layout.{lay_record}
 use Rattle.model.specs.Sound.{collect_zero}
-use Rattle.record_soundness.proofs.Laws.Chains.{told, fail3, fail4, ends, or_first, or_last}
 use Rattle.record_soundness.proofs.Laws.Clauses.{best_zero_lem}
 use Rattle.record_soundness.proofs.fields.collect_zero.Goals as goal
 
 pub returns-then-is_collecting : goal.returns-then-is_collecting
 unfolding collect_zero lay_record
-returns-then-is_collecting c = search (told, or_first)
+returns-then-is_collecting c = grind (arith, common_steps, best_zero_lem c.args.f (search rules))
 
-pub returns-then-f-ne0 : goal.returns-then-f-ne0
+pub returns-then-f-eq0-2 : goal.returns-then-f-eq0-2
 unfolding collect_zero lay_record
-returns-then-f-ne0 c = search (told, ne_eqb, fail3 true true, or_last)
+returns-then-f-eq0-2 c = grind (arith, common_steps, best_zero_lem c.args.f (search rules))
 
-pub returns-then-f-ne0-2 : goal.returns-then-f-ne0-2
+pub returns-else-f-eq0-2 : goal.returns-else-f-eq0-2
 unfolding collect_zero lay_record
-returns-then-f-ne0-2 c = search (told, eq-eqb, ne_eqb, fail4 true true, or_last)
-
-pub returns : goal.returns
-unfolding collect_zero lay_record
-returns c = search (told, eq-eqb, best_zero_lem, rules, ends true true, or_last)
+returns-else-f-eq0-2 c = grind (arith, common_steps, best_zero_lem c.args.f (search rules))

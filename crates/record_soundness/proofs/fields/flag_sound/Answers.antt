@@ -1,18 +1,18 @@
--- `flag_sound`: each return by the phase that led there.
-use Rattle.model.proofs.Kit.{eq-eqb, ne_eqb}
+-- `flag_sound`: by the phase.
+use Rattle.std.proofs.Common.{arith}
+use Rattle.std.proofs.lemmas.Grind.{common_steps}
 use Rattle.model.specs.Layout.{lay_record}
 use Rattle.model.specs.Sound.{flag_known}
-use Rattle.record_soundness.proofs.Laws.Chains.{or_true, or_second, or_false, chosen_yes, chosen_no}
 use Rattle.record_soundness.proofs.fields.flag_sound.Goals as goal
 
-pub returns-then-f-eq-WRITE_B : goal.returns-then-f-eq-WRITE_B
+pub returns-then-f-eq1 : goal.returns-then-f-eq1
 unfolding flag_known lay_record
-returns-then-f-eq-WRITE_B c = search (eq-eqb, or_true, chosen_yes)
+returns-then-f-eq1 c = grind (arith, common_steps)
 
-pub returns-then-f-eq-READ_B : goal.returns-then-f-eq-READ_B
+pub returns-else-f-eq1 : goal.returns-else-f-eq1
 unfolding flag_known lay_record
-returns-then-f-eq-READ_B c = search (eq-eqb, ne_eqb, or_second, chosen_yes)
+returns-else-f-eq1 c = grind (arith, common_steps)
 
-pub returns : goal.returns
+pub returns-else-matches : goal.returns-else-matches
 unfolding flag_known lay_record
-returns c = search (ne_eqb, or_false, chosen_no)
+returns-else-matches c = grind (arith, common_steps)

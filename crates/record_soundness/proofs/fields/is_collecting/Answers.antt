@@ -1,17 +1,13 @@
--- `is_collecting`: each return by the phase that led there.
-use Rattle.model.proofs.Kit.{eq-eqb, ne_eqb}
+-- `is_collecting`: by the phase.
+use Rattle.std.proofs.Common.{arith}
+use Rattle.std.proofs.lemmas.Grind.{common_steps}
 use Rattle.model.specs.Sound.{collecting}
-use Rattle.record_soundness.proofs.Laws.Chains.{or_first, or_true, or_false, or_second, or_last}
 use Rattle.record_soundness.proofs.fields.is_collecting.Goals as goal
 
-pub returns-then-f-eq-READ_M : goal.returns-then-f-eq-READ_M
+pub returns-in-2 : goal.returns-in-2
 unfolding collecting
-returns-then-f-eq-READ_M c = search (eq-eqb, or_true, or_first)
+returns-in-2 c = grind (arith, common_steps)
 
-pub returns-then-f-eq-READ_A : goal.returns-then-f-eq-READ_A
+pub returns-in_default : goal.returns-in_default
 unfolding collecting
-returns-then-f-eq-READ_A c = search (eq-eqb, ne_eqb, or_second, or_first)
-
-pub returns : goal.returns
-unfolding collecting
-returns c = search (ne_eqb, or_false, or_last)
+returns-in_default c = grind (arith, common_steps)

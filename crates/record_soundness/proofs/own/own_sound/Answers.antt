@@ -6,14 +6,14 @@ use Rattle.record_soundness.proofs.own.own_sound.Goals as goal
 pub own_in_m-requires : goal.own_in_m-requires
 own_in_m-requires c = search place_m
 
-pub returns-then-f-eq-READ_M : goal.returns-then-f-eq-READ_M
-returns-then-f-eq-READ_M c = search collects_m
+pub returns-in-2 : goal.returns-in-2
+returns-in-2 c = search collects_m
 
-pub returns-then-f-eq-READ_A : goal.returns-then-f-eq-READ_A
-returns-then-f-eq-READ_A c = search collects_a
+pub returns-in-4 : goal.returns-in-4
+returns-in-4 c = search collects_a
 
-pub returns-then-f-eq-READ_B : goal.returns-then-f-eq-READ_B
-returns-then-f-eq-READ_B c = search collects_b
+pub returns-in-6 : goal.returns-in-6
+returns-in-6 c = search collects_b
 
-pub returns : goal.returns
-returns c = search not_collecting
+pub returns-in_default : goal.returns-in_default
+returns-in_default c = search not_collecting
