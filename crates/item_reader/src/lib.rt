@@ -6,93 +6,82 @@
 ghost use Rattle.std.specs.Prelude.{◌≡◌};
 ghost use Rattle.item_reader.specs.Counts.{capped, TimesIs, ItemIs, ItemsAre};
 
-use lexer::number::{FoundNumber, number};
-use lexer::word::{FoundWord, word_at};
-
-// How many steps the items stand for, 65,537 for any number above 65,536, and the place after them; or the number of the
-// refusal.
-#[derive(Clone, Copy)]
-pub enum Counted {
-    Steps { count: u32, next: usize },
-    Refused { number: u8 },
-}
+use lexer::At;
+use lexer::number::number;
+use lexer::word::word_at;
+use model::refusal::Refusal;
 
 // The lesser of a count and 65,537, so that no count can wrap.
 fn cap(count: u64) -> u32
     ensures { result ≡ capped count }
 {
-    if 65536 < count {
-        return 65537;
-    }
-    count as u32
+    count.min(65537) as u32
 }
 
 // "(times " at `at`, the number behind it, and the space of the first item, at the next place.
-fn times(line: &[u8], at: usize) -> FoundNumber
+fn times(line: &[u8], at: usize) -> Result<At<u32>, Refusal>
     ensures { TimesIs line.now at result }
 {
-    let FoundWord::At { next: digits } = word_at(line, at, b"(times ") else {
-        return FoundNumber::Refused { number: 4 };
+    let Ok(digits) = word_at(line, at, b"(times ") else {
+        return Err(Refusal::NoForm);
     };
-    let FoundNumber::At { value, next } = number(line, digits, 1, 99999) else {
-        return FoundNumber::Refused { number: 4 };
+    let Ok(count) = number(line, digits, 1, 99999) else {
+        return Err(Refusal::NoForm);
     };
-    if line.len() <= next {
-        return FoundNumber::Refused { number: 4 };
+    if line.get(count.next) != Some(&b' ') {
+        return Err(Refusal::NoForm);
     }
-    if line[next] != b' ' {
-        return FoundNumber::Refused { number: 4 };
-    }
-    FoundNumber::At { value, next }
+    Ok(count)
 }
 
+// An item at `at`: how many steps it stands for, 65,537 for any number above 65,536, and the place after it.
 #[cycle(item_items)]
-fn item(line: &[u8], at: usize) -> Counted
+fn item(line: &[u8], at: usize) -> Result<At<u32>, Refusal>
     ensures { ItemIs line.now at result }
 {
-    if line.len() <= at {
-        return Counted::Refused { number: 4 };
-    }
-    if line[at] != b'(' {
-        let FoundNumber::At { value: _, next } = number(line, at, 0, 99) else {
-            return Counted::Refused { number: 4 };
+    if line.get(at) != Some(&b'(') {
+        let Ok(station) = number(line, at, 0, 99) else {
+            return Err(Refusal::NoForm);
         };
-        return Counted::Steps { count: 1, next };
+        return Ok(At {
+            value: 1,
+            next: station.next,
+        });
     }
-    let FoundNumber::At { value, next: inner } = times(line, at) else {
-        return Counted::Refused { number: 4 };
+    let Ok(count) = times(line, at) else {
+        return Err(Refusal::NoForm);
     };
-    let Counted::Steps { count, next } = items(line, inner) else {
-        return Counted::Refused { number: 4 };
+    let Ok(inner) = items(line, count.next) else {
+        return Err(Refusal::NoForm);
     };
-    Counted::Steps {
-        count: cap(value as u64 * count as u64),
-        next,
-    }
+    Ok(At {
+        value: cap(u64::from(count.value) * u64::from(inner.value)),
+        next: inner.next,
+    })
 }
 
-// Items from `at` on, each behind a space, up to the closing bracket.
+// Items from `at` on, each behind a space, up to the closing bracket, and counted as an item is.
 #[cycle(item_items)]
-pub fn items(line: &[u8], at: usize) -> Counted
+pub fn items(line: &[u8], at: usize) -> Result<At<u32>, Refusal>
     ensures { ItemsAre line.now at result }
 {
     let mut place = at;
     let mut total: u32 = 0;
     while place < line.len() {
         if line[place] == b')' {
-            return Counted::Steps {
-                count: total,
+            return Ok(At {
+                value: total,
                 next: place + 1,
-            };
+            });
         }
         if line[place] != b' ' {
-            return Counted::Refused { number: 4 };
+            return Err(Refusal::NoForm);
         }
-        let Counted::Steps { count, next } = item(line, place + 1) else {
-            return Counted::Refused { number: 4 };
+        let Ok(one) = item(line, place + 1) else {
+            return Err(Refusal::NoForm);
         };
-        total = cap(total as u64 + count as u64);
-        place = next;
+        total = cap(u64::from(total) + u64::from(one.value));
+        place = one.next;
     }
-    Counted::Refused { number: 4 }
+    Err(Refusal::NoForm)
 }

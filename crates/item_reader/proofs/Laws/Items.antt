@@ -5,19 +5,19 @@ use Rattle.model.proofs.Kit.{◌≡◌, refl, sym, ap, ◌∙◌, Bool, true, fa
 use Rattle.model.proofs.Kit.{◌+◌, ◌-◌, ◌≤◌, ◌<◌, ◌*◌, leb-true, leb-false, eq-eqb, ne_eqb, leb, length, drop}
 use Rattle.model.proofs.Kit.{drop_of_length-le, get_or, length-append, w64, Fits, mul-le-mul, arith}
 use Rattle.model.specs.Forms.{Item, station, times, Items, next, repeated, expand_item, expand, Read, found, and_then}
-use Rattle.model.specs.Forms.{spaced, number_in, natural, times_in, item_in, items_in}
+use Rattle.model.specs.Forms.{spaced, number_in, times_in, item_in, items_in}
 use Rattle.model.proofs.Sheet.Limits.{length_repeated}
-use Rattle.lexer.specs.declared.number.FoundNumber.{FoundNumber}
-use Rattle.lexer.specs.declared.number.FoundNumber.TheVariants as numbers
-use Rattle.item_reader.specs.declared.Counted.{Counted}
-use Rattle.item_reader.specs.declared.Counted.TheVariants.{Steps, Refused}
+use Rattle.std.specs.Prelude.{Ok, Err}
+use Rattle.std.specs.declared.result.Result.{Result}
+use Rattle.model.specs.declared.refusal.Refusal.{Refusal}
+use Rattle.model.specs.declared.refusal.Refusal.TheVariants.{NoForm}
+use Rattle.lexer.specs.declared.At.{At}
 use Rattle.model.specs.Forms.{or_four}
-use Rattle.lexer.specs.Placed.{NumberIs}
+use Rattle.lexer.specs.Placed.{placed_as, placed, NumberIs}
 use Rattle.list_laws.specs.Lists.{read_as}
-use Rattle.item_reader.specs.Counts.{capped, counted_at, CountedInside, sized, TimesIs, ItemIs, ItemsAre}
-use Rattle.lexer.proofs.Laws.Answers.{back, was_read}
+use Rattle.item_reader.specs.Counts.{capped, CountedInside, sized, TimesIs, ItemIs, ItemsAre}
+use Rattle.lexer.proofs.Laws.Answers.{back, was_read, missed, there, number_inside}
 use Rattle.lexer.proofs.Laws.Places.{first_byte, behind_first, left_over}
-use Rattle.lexer.proofs.Laws.Spaced.{number_missed, number_found, number_inside}
 
 -- ---- the steps of items, by their number
 
@@ -94,17 +94,6 @@ sized_next fuel (some r) = by (items_in fuel r.rest)
         omega (arith, length-append (expand_item r.value) (expand q.value)) in
         ap (λ (v : ℕ). found v q.rest) e
 
--- ---- what a count that was taken apart says
-
-module _ (line : List ℕ) (r : Counted) (o : Option (Read ℕ)) (reads : counted_at line r ≡ or_four o) where
-  pub counted_missed : (k : ℕ) → r ≡ Refused k → o ≡ none
-  unfolding counted_at back
-  counted_missed k e = was_read (counted_at line) o r _ reads e
-
-  pub counted_found : (c after : ℕ) → r ≡ Steps c after → o ≡ found c (drop after line)
-  unfolding counted_at back found
-  counted_found c after e = was_read (counted_at line) o r _ reads e
-
 -- ---- an item
 
 module _ (line : List ℕ) (at : ℕ) where
@@ -112,27 +101,23 @@ module _ (line : List ℕ) (at : ℕ) where
   abbrev ItemGives : Option (Read ℕ) → Type 0
   ItemGives o = (fuel : ℕ) → length (drop at line) ≤ fuel → sized expand_item (item_in (suc fuel) (drop at line)) ≡ o
 
-  item_is : (o : Option (Read ℕ)) → ItemGives o → (r : Counted) → CountedInside line at r → counted_at line r ≡ or_four o
+  item_is : (o : Option (Read ℕ)) → ItemGives o → (r : Result (At ℕ) Refusal) → CountedInside line at r → placed line r ≡ or_four o
       → ItemIs line at r
   item_is o gives r inside e = record { reads = by; inside = inside }
     where
       by : (fuel : ℕ) → length (drop at line) < fuel
-          → counted_at line r ≡ or_four (sized expand_item (item_in fuel (drop at line)))
+          → placed line r ≡ or_four (sized expand_item (item_in fuel (drop at line)))
       by zero l = absurd (omega arith)
       by (suc fuel) l = e ∙ ap or_four (sym (gives fuel (omega arith)))
 
-  item_refused : ItemGives none → ItemIs line at (Refused 4)
-  unfolding counted_at or_four
-  item_refused gives = item_is none gives (Refused 4) tt refl
+  item_refused : ItemGives none → ItemIs line at (Err NoForm)
+  unfolding placed_as or_four
+  item_refused gives = item_is none gives (Err NoForm) tt refl
 
-  item_counted : (c after : ℕ) → ItemGives (found c (drop after line)) → CountedInside line at (Steps c after)
-      → ItemIs line at (Steps c after)
-  unfolding counted_at or_four found
-  item_counted c after gives inside = item_is (found c (drop after line)) gives (Steps c after) inside refl
-
-  pub no_item : length line ≤ at → ItemIs line at (Refused 4)
-  unfolding item_in number_in natural and_then read_as
-  no_item h = item_refused (λ fuel l. rw (drop_of_length-le line h))
+  item_counted : (a : At ℕ) → ItemGives (found a.value (drop a.next line)) → CountedInside line at (Ok a)
+      → ItemIs line at (Ok a)
+  unfolding placed_as or_four found
+  item_counted a gives inside = item_is (found a.value (drop a.next line)) gives (Ok a) inside refl
 
   module _ (no_bracket : get_or line at 0 ≡ 40 → ⊥) where
     pub as_number : (fuel : ℕ) → item_in (suc fuel) (drop at line) ≡ and_then
@@ -140,17 +125,18 @@ module _ (line : List ℕ) (at : ℕ) where
     unfolding item_in
     as_number fuel = rw (first_byte line at, ne_eqb (get_or line at 0) 40 no_bracket)
 
-    module _ (r : FoundNumber) (is : NumberIs line at 0 99 r) where
-      pub no_number : (k : ℕ) → r ≡ numbers.Refused k → ItemIs line at (Refused 4)
+    module _ (r : Result (At ℕ) Refusal) (is : NumberIs line at 0 99 r) where
+      pub no_number : (k : Refusal) → r ≡ Err k → ItemIs line at (Err NoForm)
       unfolding and_then read_as
-      no_number k e = item_refused (λ fuel l. rw (as_number fuel, number_missed line r _ is.reads k e))
+      no_number k e = item_refused (λ fuel l. rw (as_number fuel, missed (λ v. v) line r _ is.reads k e))
 
-      pub one_step : (v after : ℕ) → r ≡ numbers.At v after → ItemIs line at (Steps 1 after)
+      pub one_step : (a : At ℕ) → r ≡ Ok a → ItemIs line at (Ok (record { value = 1; next = a.next }))
       unfolding and_then read_as found expand_item
-      one_step v after e =
-          let inside = number_inside line at 0 99 r is.inside v after e in
-          item_counted 1 after (λ fuel l. rw (as_number fuel, number_found line r _ is.reads v after e))
-          (inside.0, inside.1, omega arith)
+      one_step a e =
+          let inside = number_inside line at 0 99 r is.inside a e in
+          item_counted (record { value = 1; next = a.next })
+          (λ fuel l. rw (as_number fuel, there (λ v. v) line r _ is.reads a e))
+          (inside.0, inside.1, omega arith, omega arith)
 
   module _ (bracket : get_or line at 0 ≡ 40) where
     pub as_times : (fuel : ℕ)
@@ -159,34 +145,36 @@ module _ (line : List ℕ) (at : ℕ) where
     unfolding item_in
     as_times fuel = rw (first_byte line at, eq-eqb (get_or line at 0) 40 bracket)
 
-    module _ (r : FoundNumber) (is : TimesIs line at r) where
-      pub no_times : (k : ℕ) → r ≡ numbers.Refused k → ItemIs line at (Refused 4)
+    module _ (r : Result (At ℕ) Refusal) (is : TimesIs line at r) where
+      pub no_times : (k : Refusal) → r ≡ Err k → ItemIs line at (Err NoForm)
       unfolding and_then read_as
-      no_times k e = item_refused (λ fuel l. rw (as_times fuel, number_missed line r _ is.reads k e))
+      no_times k e = item_refused (λ fuel l. rw (as_times fuel, missed (λ v. v) line r _ is.reads k e))
 
-      module _ (k inner : ℕ) (e : r ≡ numbers.At k inner) (q : Counted) (items : ItemsAre line inner q) where
-        inside : (at < inner) × (inner ≤ length line) × (1 ≤ k) × (k ≤ 99999)
-        inside = number_inside line at 1 99999 r is.inside k inner e
+      module _ (a : At ℕ) (e : r ≡ Ok a) (q : Result (At ℕ) Refusal) (items : ItemsAre line a.next q) where
+        inside : (at < a.next) × (a.next ≤ length line) × (1 ≤ a.value) × (a.value ≤ 99999)
+        inside = number_inside line at 1 99999 r is.inside a e
 
-        by_items : (x : Counted) → q ≡ x → ItemGives (fold k (back (counted_at line x)))
+        by_items : (x : Result (At ℕ) Refusal) → q ≡ x → ItemGives (fold a.value (back (placed line x)))
         unfolding and_then found
         by_items x d fuel l =
-            let fewer : length (drop inner line) < fuel =
-            omega (arith, inside.0, inside.1, left_over line at, left_over line inner) in
-            rw (as_times fuel, number_found line r _ is.reads k inner e)
-            (sized_times k inside.2 (items_in fuel (drop inner line))
-            ∙ ap (fold k) (was_read (counted_at line) _ q x (items.reads fuel fewer) d))
+            let fewer : length (drop a.next line) < fuel =
+            omega (arith, inside.0, inside.1, left_over line at, left_over line a.next) in
+            rw (as_times fuel, there (λ v. v) line r _ is.reads a e)
+            (sized_times a.value inside.2 (items_in fuel (drop a.next line))
+            ∙ ap (fold a.value) (was_read (placed line) _ q x (items.reads fuel fewer) d))
 
-        pub no_inner : (j : ℕ) → q ≡ Refused j → ItemIs line at (Refused 4)
-        unfolding fold counted_at back
+        pub no_inner : (j : Refusal) → q ≡ Err j → ItemIs line at (Err NoForm)
+        unfolding fold placed_as back
         no_inner j d = item_refused (by_items _ d)
 
-        pub repeats : (c after m : ℕ) → q ≡ Steps c after → m ≡ capped (k * c) → ItemIs line at (Steps m after)
-        unfolding fold counted_at back found
-        repeats c after m d g =
-            let behind = rw d at items.inside in
-            item_counted m after (λ fuel l. by_items _ d fuel l ∙ ap (λ (v : ℕ). found v (drop after line)) (sym g))
-            (omega (arith, inside.0), behind.1, omega arith)
+        pub repeats : (b : At ℕ) → q ≡ Ok b → (m : ℕ) → m ≡ capped (a.value * b.value)
+            → ItemIs line at (Ok (record { value = m; next = b.next }))
+        unfolding fold placed_as back found
+        repeats b d m g =
+            let behind = number_inside line a.next 0 65537 q items.inside b d in
+            item_counted (record { value = m; next = b.next })
+            (λ fuel l. by_items _ d fuel l ∙ ap (λ (v : ℕ). found v (drop b.next line)) (sym g))
+            (omega (arith, inside.0, behind.0), behind.1, omega arith, omega arith)
 
 -- ---- a list of items
 
@@ -212,8 +200,8 @@ module _ (line : List ℕ) (at place total : ℕ) (along : Along line at place t
       (fuel : ℕ) → length (drop place line) ≤ fuel
       → more total (sized expand (items_in (suc fuel) (drop place line))) ≡ o
 
-  items_are : (o : Option (Read ℕ)) → ItemsGive o → (r : Counted) → CountedInside line at r
-      → counted_at line r ≡ or_four o → ItemsAre line at r
+  items_are : (o : Option (Read ℕ)) → ItemsGive o → (r : Result (At ℕ) Refusal) → CountedInside line at r
+      → placed line r ≡ or_four o → ItemsAre line at r
   items_are o gives r inside e =
       record {
         reads = λ fuel l. from (along.reads fuel l).0 (along.reads fuel l).1 (along.reads fuel l).2;
@@ -222,38 +210,38 @@ module _ (line : List ℕ) (at place total : ℕ) (along : Along line at place t
     where
       from : {p : Option (Read ℕ)} (k : ℕ) → length (drop place line) < k
           → p ≡ more total (sized expand (items_in k (drop place line)))
-          → counted_at line r ≡ or_four p
+          → placed line r ≡ or_four p
       from zero l q = absurd (omega arith)
       from (suc k) l q = e ∙ ap or_four (sym (q ∙ gives k (omega arith)))
 
-  items_refused : ItemsGive none → ItemsAre line at (Refused 4)
-  unfolding counted_at or_four
-  items_refused gives = items_are none gives (Refused 4) tt refl
+  items_refused : ItemsGive none → ItemsAre line at (Err NoForm)
+  unfolding placed_as or_four
+  items_refused gives = items_are none gives (Err NoForm) tt refl
 
-  pub no_more : length line ≤ place → ItemsAre line at (Refused 4)
+  pub no_more : length line ≤ place → ItemsAre line at (Err NoForm)
   unfolding items_in spaced and_then read_as more
   no_more h = items_refused (λ fuel l. rw (drop_of_length-le line h))
 
   module _ (inside : place < length line) where
-    pub closed : get_or line place 0 ≡ 41 → ItemsAre line at (Steps total (place + 1))
-    unfolding items_in read_as more counted_at or_four found expand
+    pub closed : get_or line place 0 ≡ 41 → ItemsAre line at (Ok (record { value = total; next = place + 1 }))
+    unfolding items_in read_as more placed_as or_four found expand
     closed e =
         let same : capped (total + 0) ≡ total = omega (arith, along.small) in
         items_are (found total (drop (place + 1) line))
         (λ fuel l. rw (first_byte line place, eq-eqb (get_or line place 0) 41 e, behind_first line place)
         (ap (λ (v : ℕ). found v (drop (place + 1) line)) same))
-        (Steps total (place + 1)) (omega (arith, along.behind), omega arith, along.small) refl
+        (Ok (record { value = total; next = place + 1 })) (omega (arith, along.behind), omega arith, omega arith, along.small) refl
 
     module _ (unclosed : get_or line place 0 ≡ 41 → ⊥) where
-      pub no_space : (get_or line place 0 ≡ 32 → ⊥) → ItemsAre line at (Refused 4)
+      pub no_space : (get_or line place 0 ≡ 32 → ⊥) → ItemsAre line at (Err NoForm)
       unfolding items_in spaced and_then read_as more
       no_space ne =
           items_refused (λ fuel l. rw
           (first_byte line place, ne_eqb (get_or line place 0) 41 unclosed, ne_eqb (get_or line place 0) 32 ne))
 
-      module _ (space : get_or line place 0 ≡ 32) (q : Counted) (item : ItemIs line (place + 1) q) where
-        by_item : (x : Counted) → q ≡ x → (fuel : ℕ) → length (drop place line) ≤ fuel
-            → sized expand (items_in (suc fuel) (drop place line)) ≡ joined fuel (back (counted_at line x))
+      module _ (space : get_or line place 0 ≡ 32) (q : Result (At ℕ) Refusal) (item : ItemIs line (place + 1) q) where
+        by_item : (x : Result (At ℕ) Refusal) → q ≡ x → (fuel : ℕ) → length (drop place line) ≤ fuel
+            → sized expand (items_in (suc fuel) (drop place line)) ≡ joined fuel (back (placed line x))
         unfolding items_in spaced
         by_item x d fuel l =
             let fewer : length (drop (place + 1) line) < fuel =
@@ -265,52 +253,52 @@ module _ (line : List ℕ) (at place total : ℕ) (along : Along line at place t
               behind_first line place,
             )
             (sized_next fuel (item_in fuel (drop (place + 1) line))
-            ∙ ap (joined fuel) (was_read (counted_at line) _ q x (item.reads fuel fewer) d))
+            ∙ ap (joined fuel) (was_read (placed line) _ q x (item.reads fuel fewer) d))
 
-        pub item_missing : (k : ℕ) → q ≡ Refused k → ItemsAre line at (Refused 4)
-        unfolding joined counted_at back more
+        pub item_missing : (k : Refusal) → q ≡ Err k → ItemsAre line at (Err NoForm)
+        unfolding joined placed_as back more
         item_missing k d = items_refused (λ fuel l. ap (more total) (by_item _ d fuel l))
 
-        pub again : (c after m : ℕ) → q ≡ Steps c after → m ≡ capped (total + c) → Along line at after m
-        unfolding joined counted_at back found
-        again c after m d g =
-            let within = rw d at item.inside in
+        pub again : (b : At ℕ) → q ≡ Ok b → (m : ℕ) → m ≡ capped (total + b.value) → Along line at b.next m
+        unfolding joined placed_as back found
+        again b d m g =
+            let within = number_inside line (place + 1) 0 65537 q item.inside b d in
             record {
-              behind = omega (arith, along.behind);
+              behind = omega (arith, along.behind, within.0);
               small = omega arith;
               reads = λ fuel l. from fuel (along.reads fuel l).0 (along.reads fuel l).1 (along.reads fuel l).2;
             }
           where
             from : (fuel k : ℕ) → length (drop place line) < k
                 → sized expand (items_in fuel (drop at line)) ≡ more total (sized expand (items_in k (drop place line)))
-                → (k : ℕ) × (length (drop after line) < k)
-                × (sized expand (items_in fuel (drop at line)) ≡ more m (sized expand (items_in k (drop after line))))
+                → (k : ℕ) × (length (drop b.next line) < k)
+                × (sized expand (items_in fuel (drop at line)) ≡ more m (sized expand (items_in k (drop b.next line))))
             from fuel zero l e = absurd (omega arith)
             from fuel (suc k) l e =
-                let within = rw d at item.inside in (
+                let within = number_inside line (place + 1) 0 65537 q item.inside b d in (
                   k,
-                  omega (arith, left_over line place, left_over line after),
+                  omega (arith, within.0, within.1, left_over line place, left_over line b.next),
                   e ∙ ap (more total) (by_item _ d k (omega arith))
-                      ∙ more_twice total c _
-                      ∙ ap (λ (v : ℕ). more v (sized expand (items_in k (drop after line)))) (sym g),
+                      ∙ more_twice total b.value _
+                      ∙ ap (λ (v : ℕ). more v (sized expand (items_in k (drop b.next line)))) (sym g),
                 )
 
 -- ---- what the calls need to end and the counts to fit
 
-pub times_behind : (line : List ℕ) (at k inner : ℕ) (r : FoundNumber) → TimesIs line at r → r ≡ numbers.At k inner
-    → at < inner
-times_behind line at k inner r is e = let inside = rw e at is.inside in inside.0
+pub times_behind : (line : List ℕ) (at : ℕ) (r : Result (At ℕ) Refusal) → TimesIs line at r → (a : At ℕ) → r ≡ Ok a
+    → at < a.next
+times_behind line at r is a e = (number_inside line at 1 99999 r is.inside a e).0
 
-pub item_less : (line : List ℕ) (place c after : ℕ) (r : Counted) → place < length line → ItemIs line (place + 1) r
-    → r ≡ Steps c after → length line - after < length line - place
-item_less line place c after r h is e = let inside = rw e at is.inside in omega (arith, inside.0)
+pub item_less : (line : List ℕ) (place : ℕ) (r : Result (At ℕ) Refusal) → place < length line
+    → ItemIs line (place + 1) r → (b : At ℕ) → r ≡ Ok b → length line - b.next < length line - place
+item_less line place r h is b e = omega (arith, (number_inside line (place + 1) 0 65537 r is.inside b e).0)
 
-pub product_fits : (line : List ℕ) (at k inner : ℕ) (r : FoundNumber) → TimesIs line at r → r ≡ numbers.At k inner
-    → (c after : ℕ) (q : Counted) → ItemsAre line inner q → q ≡ Steps c after → Fits w64 (k * c)
-product_fits line at k inner r is e c after q items d =
-    let outer = rw e at is.inside in
-    let inside = rw d at items.inside in
-    record { fits = omega (arith, mul-le-mul outer.3 inside.2) }
+pub product_fits : (line : List ℕ) (at : ℕ) (r : Result (At ℕ) Refusal) → TimesIs line at r → (a : At ℕ) → r ≡ Ok a
+    → (q : Result (At ℕ) Refusal) → ItemsAre line a.next q → (b : At ℕ) → q ≡ Ok b → Fits w64 (a.value * b.value)
+product_fits line at r is a e q items b d =
+    let outer = number_inside line at 1 99999 r is.inside a e in
+    let inside = number_inside line a.next 0 65537 q items.inside b d in
+    record { fits = omega (arith, mul-le-mul outer.3 inside.3) }
 
 pub falls_to : (l at inner t : ℕ) → l - at ≡ t → at < inner → at < l → l - inner < t
 falls_to l at inner t e h b = omega arith

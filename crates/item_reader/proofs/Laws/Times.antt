@@ -3,63 +3,60 @@
 -- items rely on it.
 use Rattle.model.proofs.Kit.{◌≡◌, refl, sym, ap, ◌∙◌, cond, List, none, some, Option, ℕ, ◌+◌, ◌≤◌, eq-eqb, ne_eqb, eqb}
 use Rattle.model.proofs.Kit.{length, drop, get_or, drop-drop, arith}
-use lib.ListN.{get_or-eq_default}
 use Rattle.model.specs.Bytes.{byte}
 use Rattle.model.specs.Show.{text, text_from}
 use Rattle.model.specs.Forms.{Read, found, and_then, number_in, behind, times_in}
-use Rattle.lexer.specs.declared.number.FoundNumber.{FoundNumber}
-use Rattle.lexer.specs.declared.number.FoundNumber.TheVariants.{At, Refused}
-use Rattle.lexer.specs.declared.word.FoundWord.{FoundWord}
-use Rattle.lexer.specs.declared.word.FoundWord.TheVariants as words
+use Rattle.std.specs.Prelude.{Ok, Err}
+use Rattle.std.specs.declared.result.Result.{Result}
+use Rattle.model.specs.declared.refusal.Refusal.{Refusal}
+use Rattle.model.specs.declared.refusal.Refusal.TheVariants.{NoForm}
+use Rattle.lexer.specs.declared.At.{At}
 use Rattle.model.specs.Forms.{or_four}
-use Rattle.lexer.specs.Placed.{number_at, NumberIs}
+use Rattle.lexer.specs.Placed.{placed_as, NumberIs}
 use Rattle.lexer.specs.Words.{WordIs}
 use Rattle.lexer.proofs.Laws.Behind.{text_found, word_missed, word_found, word_inside}
 use Rattle.model.proofs.Basics.Tests.{never}
 use Rattle.lexer.proofs.Laws.Given.{passed, through}
 use Rattle.lexer.proofs.Laws.Places.{first_byte, left_over}
-use Rattle.lexer.proofs.Laws.Spaced.{number_missed, number_found, number_inside}
+use Rattle.lexer.proofs.Laws.Answers.{missed, there, number_inside}
 use Rattle.item_reader.specs.Counts.{TimesIs}
 
 module _ (line : List ℕ) (at : ℕ) where
-  no_times : times_in (drop at line) ≡ none → TimesIs line at (Refused 4)
-  unfolding number_at or_four
+  no_times : times_in (drop at line) ≡ none → TimesIs line at (Err NoForm)
+  unfolding placed_as or_four
   no_times e = record { reads = ap or_four (sym e); inside = tt }
 
-  module _ (word : FoundWord) (times : WordIs line at (text "(times ") word) where
-    pub times_other : (k : ℕ) → word ≡ words.Refused k → TimesIs line at (Refused 4)
+  module _ (word : Result ℕ Refusal) (times : WordIs line at (text "(times ") word) where
+    pub times_other : (k : Refusal) → word ≡ Err k → TimesIs line at (Err NoForm)
     unfolding times_in
     times_other k e = no_times (rw (word_missed line at _ word times k e, times_in))
 
-    module _ (digits : ℕ) (d : word ≡ words.At digits) (r : FoundNumber) (is : NumberIs line digits 1 99999 r) where
-      pub times_unnumbered : (k : ℕ) → r ≡ Refused k → TimesIs line at (Refused 4)
+    module _ (digits : ℕ) (d : word ≡ Ok digits) (r : Result (At ℕ) Refusal) (is : NumberIs line digits 1 99999 r) where
+      pub times_unnumbered : (k : Refusal) → r ≡ Err k → TimesIs line at (Err NoForm)
       unfolding times_in and_then
       times_unnumbered k e =
-          no_times (rw (word_found line at _ word times digits d, times_in, number_missed line r _ is.reads k e))
+          no_times (rw (word_found line at _ word times digits d, times_in, missed (λ v. v) line r _ is.reads k e))
 
-      module _ (v next : ℕ) (e : r ≡ At v next) where
-        numbered : times_in (drop at line) ≡ cond (eqb (get_or line next 0) 32) (found v (drop next line)) none
+      module _ (a : At ℕ) (e : r ≡ Ok a) where
+        numbered : times_in (drop at line) ≡ cond (eqb (get_or line a.next 0) 32) (found a.value (drop a.next line)) none
         unfolding times_in and_then found
         numbered =
             rw (
               word_found line at _ word times digits d,
               times_in,
-              number_found line r _ is.reads v next e,
-              first_byte line next,
+              there (λ v. v) line r _ is.reads a e,
+              first_byte line a.next,
             )
 
-        pub times_unspaced : (get_or line next 0 ≡ 32 → ⊥) → TimesIs line at (Refused 4)
-        times_unspaced ne = no_times (numbered ∙ rw (ne_eqb (get_or line next 0) 32 ne))
+        pub times_unspaced : (get_or line a.next 0 ≡ 32 → ⊥) → TimesIs line at (Err NoForm)
+        times_unspaced ne = no_times (numbered ∙ rw (ne_eqb (get_or line a.next 0) 32 ne))
 
-        pub times_ended : length line ≤ next → TimesIs line at (Refused 4)
-        times_ended h = times_unspaced (λ q. omega (arith, get_or-eq_default line 0 h))
-
-        pub times_read : get_or line next 0 ≡ 32 → TimesIs line at (At v next)
-        unfolding number_at or_four found
+        pub times_read : get_or line a.next 0 ≡ 32 → TimesIs line at (Ok a)
+        unfolding placed_as or_four found
         times_read q =
-            let in-line = number_inside line digits 1 99999 r is.inside v next e in
+            let in-line = number_inside line digits 1 99999 r is.inside a e in
             record {
-              reads = rw (numbered, eq-eqb (get_or line next 0) 32 q);
+              reads = rw (numbered, eq-eqb (get_or line a.next 0) 32 q);
               inside = (
                 omega (arith, in-line.0, word_inside line at _ word times digits d),
                 in-line.1,
