@@ -3,6 +3,7 @@
 use Rattle.model.proofs.Kit.{◌≡◌, refl, subst, Bool, true, false, cond, List, none, some, Option, ℕ, zero, suc, ◌+◌}
 use Rattle.model.proofs.Kit.{eqb, drop, arith}
 use native.Mathlib.Nat.{add_comm}
+use Rattle.model.proofs.Basics.Tests.{never}
 use Rattle.model.specs.Bytes.{byte}
 use Rattle.model.specs.Forms.{Items, Read, and_then, spaced, times_in, item_in, items_in}
 
@@ -17,13 +18,10 @@ below_cond : {A : Type 0} (t : Bool) {x y v w : Option A} → Below x v → Belo
 below_cond true h l = h
 below_cond false h l = l
 
-nothing_given : {A : Type 0} {o : Option A} (a : A) → none ≡ some a → o ≡ some a
-nothing_given a e = absurd (let z : ◌≡◌ {A = ℕ} 0 1 = cc in omega arith)
-
 below_then : {A B : Type 0} (o p : Option (Read A)) (f g : A → List ℕ → Option B)
     → Below o p → ((a : A) (l : List ℕ) → Below (f a l) (g a l)) → Below (and_then o f) (and_then p g)
 unfolding and_then
-below_then none p f g h k b e = nothing_given b e
+below_then none p f g h k b e = never b e
 below_then (some r) p f g h k b e = rw (h r refl) (k r.value r.rest b e)
 
 -- one more of fuel reads at least as much
@@ -48,7 +46,7 @@ items_grow k h l =
 
 grows : (k : ℕ) → Grows k
 unfolding item_in items_in
-grows zero = record { item = λ l a e. nothing_given a e; items = λ l a e. nothing_given a e }
+grows zero = record { item = λ l a e. never a e; items = λ l a e. never a e }
 grows (suc k) = record { item = item_grows k (grows k); items = items_grow k (grows k) }
 
 much_more : (d k : ℕ) (l : List ℕ) → Below (items_in k l) (items_in (d + k) l)

@@ -5,7 +5,7 @@ use Rattle.model.proofs.Kit.{◌≡◌, refl, sym, ap, ◌∙◌, subst₂, List
 use Rattle.model.proofs.Kit.{length, drop, drop_of_length-le, get_or, w8, Fits, lt_of_not-le, arith}
 use Rattle.model.specs.Forms.{Item, station, expand_item, Read, found, and_then, spaced, number_in, natural, item_in}
 use Rattle.model.specs.Forms.{items_in}
-use Rattle.lexer.specs.declared.known.KnownNumber.{KnownNumber}
+use Rattle.lexer.specs.declared.At.{At}
 use Rattle.lexer.specs.Known.{NumberStands, KnownIs}
 use Rattle.model.proofs.Basics.Tests.{never}
 use Rattle.lexer.proofs.Laws.Given.{found_one, through}
@@ -72,7 +72,7 @@ module _ (line : List ℕ) (at : ℕ) (no_bracket : get_or line at 0 ≡ 40 → 
   pub station_stands : NumberStands line at
   station_stands = stands_there line at 0 99 (omega arith) station_read.0 station_read.1
 
-  module _ (n : KnownNumber) (is : KnownIs line at n) where
+  module _ (n : At ℕ) (is : KnownIs line at n) where
     pub station-fits : Fits w8 n.value
     station-fits =
         record {

@@ -8,7 +8,7 @@ use native.Mathlib.Nat.{suc-add}
 use Rattle.model.specs.Forms.{Item, times, Items, repeated, expand_item, expand, Read, found, and_then, number_in, times_in}
 use Rattle.model.specs.Forms.{item_in, items_in}
 use Rattle.model.proofs.Basics.Tests.{cond_case, never}
-use Rattle.lexer.specs.declared.known.KnownNumber.{KnownNumber}
+use Rattle.lexer.specs.declared.At.{At}
 use Rattle.lexer.specs.Known.{NumberStands, KnownIs}
 use Rattle.lexer.proofs.Laws.Given.{found_one, Through, through}
 use Rattle.lexer.proofs.Laws.Known.{stands_there, known_found, known_range}
@@ -104,7 +104,7 @@ module _ (line : List ℕ) (at : ℕ) (bracket : get_or line at 0 ≡ 40) (reads
   pub repeats_place : at + 7 ≤ length line
   repeats_place = repeats_read.1
 
-  module _ (n : KnownNumber) (is : KnownIs line (at + 7) n) where
+  module _ (n : At ℕ) (is : KnownIs line (at + 7) n) where
     times_found : times_in (drop at line) ≡ found n.value (drop n.next line)
     times_found =
         times_read.1 ∙ sym repeats_read.0
