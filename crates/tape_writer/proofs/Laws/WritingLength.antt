@@ -13,7 +13,7 @@ end_short : (word : String) (c : ℕ) (x : Figure) (k : ℕ) → length (text wo
 unfolding end_text text text_from
 end_short word c x k h = simp length-append (omega (arith, h, length_any c, length_signed x, length_any k))
 
-kind_short : (a : Answer Figure) (k : ℕ) → length (kind_text a k) ≤ 42
+pub kind_short : (a : Answer Figure) (k : ℕ) → length (kind_text a k) ≤ 42
 unfolding kind_text text text_from
 kind_short wrote k = omega arith
 kind_short read k = simp length-append (omega (arith, length_any k))
@@ -33,3 +33,6 @@ entry_short e =
 -- and with its LF
 pub line_short : (e : Entry) → length (entry_text e ++ (10 ∷ [])) ≤ 55
 line_short e = omega (arith, entry_short e, length-append (entry_text e) (10 ∷ []))
+
+-- and of its pieces
+pub ruleset lengths = (length-append, length_any, kind_short)
