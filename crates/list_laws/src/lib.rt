@@ -3,16 +3,9 @@
 // Relies on the model's lists and the lexer; the readers of items, rounds and pairs and those who go along them rely on it.
 #![tactic(auto)]
 
-// How many things a list has, how many stations a board must have for them, 255 for those that no board takes, and the
-// place after the list; or the number of the refusal.
+// How many things a list has, and how many stations a board must have for them: 255 for those that no board takes.
 #[derive(Clone, Copy)]
-pub enum Listed {
-    At {
-        count: usize,
-        needs: u8,
-        next: usize,
-    },
-    Refused {
-        number: u8,
-    },
+pub struct Listed {
+    pub count: usize,
+    pub needs: u8,
 }

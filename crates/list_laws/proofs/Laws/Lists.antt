@@ -4,11 +4,15 @@
 use Rattle.model.proofs.Kit.{◌≡◌, refl, sym, ap, ◌∙◌, List, [], ◌∷◌, ◌++◌, append_assoc, append-nil, none, some, Option}
 use Rattle.model.proofs.Kit.{ℕ, zero, suc, ◌+◌, ◌≤◌, ◌<◌, eq-eqb, ne_eqb, length, drop, get_or, length-append, arith}
 use lib.ListN.{get_or-eq_default}
+use Rattle.std.specs.Prelude.{Ok, Err}
+use Rattle.std.specs.declared.result.Result.{Result}
+use Rattle.model.specs.declared.refusal.Refusal.{Refusal}
+use Rattle.model.specs.declared.refusal.Refusal.TheVariants.{NoForm}
+use Rattle.lexer.specs.declared.At.{At}
+use Rattle.lexer.specs.Placed.{placed, placed_as, Inside}
 use Rattle.model.specs.Forms.{Read, found, and_then, spaced, list_in, or_four}
 use Rattle.list_laws.specs.declared.Listed.{Listed}
-use Rattle.list_laws.specs.declared.Listed.TheVariants.{At, Refused}
-use Rattle.list_laws.specs.Lists.{read_as, Summary, summary, listed_at, ListedInside, ListIs}
-use Rattle.lexer.proofs.Laws.Answers.{back, was_read}
+use Rattle.list_laws.specs.Lists.{read_as, summary, ListIs}
 use Rattle.model.proofs.Basics.Tests.{never}
 use Rattle.lexer.proofs.Laws.Given.{found_one}
 use Rattle.lexer.proofs.Laws.Places.{first_byte, behind_first, left_over}
@@ -34,22 +38,6 @@ module _ {A B : Type 0} (f : A → B) where
   as_found (some r) b l e =
       let same = found_one (f r.value) b r.rest l e in
       (r.value, ap (λ (k : List ℕ). found r.value k) same.1, same.0)
-
--- ---- what a list that was taken apart says
-
-module _ (line : List ℕ) (r : Listed) (o : Option (Read Summary)) (reads : listed_at line r ≡ or_four o) where
-  pub listed_missed : (k : ℕ) → r ≡ Refused k → o ≡ none
-  unfolding listed_at back
-  listed_missed k e = was_read (listed_at line) o r _ reads e
-
-  pub listed_found : (c n after : ℕ) → r ≡ At c n after
-      → o ≡ found (record { count = c; needs = n }) (drop after line)
-  unfolding listed_at back found
-  listed_found c n after e = was_read (listed_at line) o r _ reads e
-
-pub listed_inside : (line : List ℕ) (at : ℕ) (r : Listed) → ListedInside line at r → (c n after : ℕ) → r ≡ At c n after
-    → (at < after) × (after ≤ length line)
-listed_inside line at r inside c n after e = rw e at inside
 
 -- ---- the list behind what was read of it
 
@@ -126,6 +114,9 @@ module _ {A : Type 0} (one : List ℕ → Option (Read A)) (line : List ℕ) (ws
 
 -- ---- the list summed up
 
+abbrev pub listed : (count needs next : ℕ) → At Listed
+listed count needs next = record { value = record { count = count; needs = needs }; next = next }
+
 -- the things read so far are `count`, and `sum` is what f makes of them
 pub record Summed {A : Type 0} (one : List ℕ → Option (Read A)) (f : List A → ℕ) (ws : List A) (line : List ℕ)
     (at place count sum : ℕ) : Type 0 where
@@ -140,29 +131,29 @@ module _ {A : Type 0} (one : List ℕ → Option (Read A)) (f : List A → ℕ) 
   sum_begun count sum e q h = record { things = ws; along = begun one line ws at; counts = e; sums = q; few = h }
 
   module _ (place count sum : ℕ) (s : Summed one f ws line at place count sum) where
-    list_is : (o : Option (Read (List A))) → Gives one line ws at o → (r : Listed) → ListedInside line at r
-        → listed_at line r ≡ or_four (read_as (summary f) o) → ListIs one f ws line at r
+    list_is : (o : Option (Read (List A))) → Gives one line ws at o → (r : Result (At Listed) Refusal) → Inside line at r
+        → placed line r ≡ or_four (read_as (summary f) o) → ListIs one f ws line at r
     list_is o gives r inside e = record {
       reads = λ fuel l. e
           ∙ ap or_four (ap (read_as (summary f)) (sym (gives fuel l)) ∙ read_twice (λ is. ws ++ is) (summary f) _);
       inside = inside;
     }
 
-    refused : Gives one line ws at none → ListIs one f ws line at (Refused 4)
-    unfolding listed_at or_four read_as
-    refused gives = list_is none gives (Refused 4) tt refl
+    refused : Gives one line ws at none → ListIs one f ws line at (Err NoForm)
+    unfolding placed_as or_four read_as
+    refused gives = list_is none gives (Err NoForm) tt refl
 
-    pub list_closed : place < length line → get_or line place 0 ≡ 41 → ListIs one f ws line at (At count sum (place + 1))
-    unfolding listed_at or_four read_as summary found
+    pub list_closed : place < length line → get_or line place 0 ≡ 41 → ListIs one f ws line at (Ok (listed count sum (place + 1)))
+    unfolding placed_as or_four read_as summary found
     list_closed h e =
-        list_is _ (closed one line ws at s.things place s.along e) (At count sum (place + 1))
+        list_is _ (closed one line ws at s.things place s.along e) (Ok (listed count sum (place + 1)))
         (omega (arith, s.along.behind), omega arith) (rw (s.counts, s.sums))
 
     pub list_unread : (get_or line place 0 ≡ 41 → ⊥) → spaced one (drop place line) ≡ none
-        → ListIs one f ws line at (Refused 4)
+        → ListIs one f ws line at (Err NoForm)
     list_unread unclosed e = refused (unread one line ws at s.things place s.along unclosed e)
 
-    pub list_past : length line ≤ place → ListIs one f ws line at (Refused 4)
+    pub list_past : length line ≤ place → ListIs one f ws line at (Err NoForm)
     list_past h =
         list_unread (λ e. omega (arith, get_or-eq_default line 0 h)) (no_space_left one line place h)
 
