@@ -7,86 +7,64 @@ ghost use Rattle.model.specs.Forms.{pair_in};
 ghost use Rattle.list_laws.specs.Lists.{ListIs};
 ghost use Rattle.pair_reader.specs.Pairs.{PairIs, need_nothing};
 
-use lexer::number::{FoundFigure, FoundNumber, number, spaced_figure};
+use lexer::At;
+use lexer::number::{number, spaced_figure};
 use list_laws::Listed;
+use model::refusal::Refusal;
 
-// The pair read and the place after it, or the number of the refusal.
+// A station and the figure that is proposed for it.
 #[derive(Clone, Copy)]
-pub enum FoundPair {
-    At {
-        station: u8,
-        figure: i32,
-        next: usize,
-    },
-    Refused {
-        number: u8,
-    },
+pub struct Pair {
+    pub station: u8,
+    pub figure: i32,
 }
 
-fn pair(line: &[u8], at: usize) -> FoundPair
+fn pair_at(line: &[u8], at: usize) -> Result<At<Pair>, Refusal>
     ensures { PairIs line.now at result }
 {
-    if line.len() <= at {
-        return FoundPair::Refused { number: 4 };
+    if line.get(at) != Some(&b'(') {
+        return Err(Refusal::NoForm);
     }
-    if line[at] != b'(' {
-        return FoundPair::Refused { number: 4 };
-    }
-    let FoundNumber::At {
-        value: station,
-        next: second,
-    } = number(line, at + 1, 0, 99)
-    else {
-        return FoundPair::Refused { number: 4 };
+    let Ok(station) = number(line, at + 1, 0, 99) else {
+        return Err(Refusal::NoForm);
     };
-    let FoundFigure::At {
-        value: figure,
-        next,
-    } = spaced_figure(line, second)
-    else {
-        return FoundPair::Refused { number: 4 };
+    let Ok(figure) = spaced_figure(line, station.next) else {
+        return Err(Refusal::NoForm);
     };
-    if line.len() <= next {
-        return FoundPair::Refused { number: 4 };
+    if line.get(figure.next) != Some(&b')') {
+        return Err(Refusal::NoForm);
     }
-    if line[next] != b')' {
-        return FoundPair::Refused { number: 4 };
-    }
-    FoundPair::At {
-        station: station as u8,
-        figure,
-        next: next + 1,
-    }
+    Ok(At {
+        value: Pair {
+            station: station.value as u8,
+            figure: figure.value,
+        },
+        next: figure.next + 1,
+    })
 }
 
 // The pairs from `at` on, each behind a space, up to the closing bracket. What they ask of a board is tried pair by pair, and so
 // they need nothing here.
-pub fn pair_list(line: &[u8], at: usize) -> Listed
+pub fn pair_list(line: &[u8], at: usize) -> Result<At<Listed>, Refusal>
     ensures { ListIs pair_in need_nothing [] line.now at result }
 {
     let mut place = at;
-    let mut count: usize = 0;
+    let mut count = 0;
     while place < line.len() {
         if line[place] == b')' {
-            return Listed::At {
-                count,
-                needs: 0,
+            return Ok(At {
+                value: Listed { count, needs: 0 },
                 next: place + 1,
-            };
+            });
         }
         if line[place] != b' ' {
-            return Listed::Refused { number: 4 };
+            return Err(Refusal::NoForm);
         }
-        let FoundPair::At {
-            station: _,
-            figure: _,
-            next,
-        } = pair(line, place + 1)
-        else {
-            return Listed::Refused { number: 4 };
+        let Ok(found) = pair_at(line, place + 1) else {
+            return Err(Refusal::NoForm);
         };
         count += 1;
-        place = next;
+        place = found.next;
     }
-    Listed::Refused { number: 4 }
+    Err(Refusal::NoForm)
 }
