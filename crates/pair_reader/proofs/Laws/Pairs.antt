@@ -1,7 +1,7 @@
 -- Pairs as they are read: one pair in its brackets, and the pairs of a line.
 -- Relies on the laws of lists and the lexer's Places and Spaced; the proofs of src/lib.rt rely on it.
 use Rattle.model.proofs.Kit.{◌≡◌, refl, ◌∙◌, Bool, cond, List, [], none, ℕ, ◌+◌, ◌-◌, ◌<◌, ℤ}
-use Rattle.model.proofs.Kit.{eq-eqb, ne_eqb, eqb, length, drop, get_or, w8, Fits, arith}
+use Rattle.model.proofs.Kit.{eq-eqb, ne_eqb, eqb, length, drop, get_or, arith}
 use Rattle.model.specs.Forms.{found, and_then, spaced, number_in, figure_in, pair_in, or_four}
 use Rattle.std.specs.Prelude.{Ok, Err}
 use Rattle.std.specs.declared.result.Result.{Result}
@@ -40,9 +40,6 @@ module _ (line : List ℕ) (at : ℕ) where
         ))
 
     module _ (i : At ℕ) (e : first ≡ Ok i) where
-      pub station-fits : Fits w8 i.value
-      station-fits = record { fits = omega (arith, (number_inside line (at + 1) 0 99 first is.inside i e).3) }
-
       module _ (f : Result (At ℤ) Refusal) (more : FigureIs line i.next f) where
         pub pair_unfigured : (k : Refusal) → f ≡ Err k → PairIs line at (Err NoForm)
         unfolding pair_in and_then found

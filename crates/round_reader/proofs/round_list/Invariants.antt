@@ -5,7 +5,7 @@ use Rattle.round_reader.proofs.Laws.Rounds.{Rounds}
 use Rattle.round_reader.proofs.round_list.Given as goal
 
 abbrev pub invariant-loop-place : goal.invariant-loop-place
-invariant-loop-place l = Rounds l.line l.at l.most l.place l.count l.all
+invariant-loop-place l = Rounds l.line l.at l.most l.place l.count l.needs
 
 abbrev pub decreases-loop-place : goal.decreases-loop-place
 decreases-loop-place l = length l.line - l.place

@@ -1,5 +1,4 @@
 use Rattle.std.proofs.Common.{rules}
-use Rattle.lexer.proofs.Laws.Spaced.{byte_fits}
 use Rattle.list_laws.proofs.Laws.Lists.{list_closed, list_past}
 use Rattle.round_reader.proofs.Laws.Rounds.{stations_begun, station_missing, station_less}
 use Rattle.round_reader.proofs.Laws.Rounds.{station_again}
@@ -13,9 +12,6 @@ returns-then-line-place-eq41 c = search list_closed
 
 pub returns-in_default : goal.returns-in_default
 returns-in_default c = search station_missing
-
-pub overflow_cast-value : goal.overflow_cast-value
-overflow_cast-value c = search byte_fits
 
 pub loop-place-smaller : goal.loop-place-smaller
 loop-place-smaller c = search station_less
