@@ -1,26 +1,12 @@
-// Eight bytes put at a place of a board: what registers and whole records are written by.
+// Bytes put at a place of a board: what registers and records are written by.
 // Relies on nothing of this crate; registers and records rely on it.
 ghost use Rattle.std.specs.Prelude.{◌≡◌, ◌+◌, ◌≤◌, length};
 ghost use Rattle.model.specs.Bytes.{splice};
 
-// The bytes of a cell, whatever stood there.
-pub fn write_cell(cell: &mut [u8], bytes: [u8; 8])
-    requires { length cell.old ≡ 8 }
-    ensures { cell.new ≡ bytes }
+// Of a length that is known as it is compiled, these are one store.
+pub fn put<const N: usize>(board: &mut [u8], at: usize, bytes: [u8; N])
+    requires { at + N ≤ length board.old }
+    ensures { board.new ≡ splice at bytes.entry board.old }
 {
-    cell[0] = bytes[0];
-    cell[1] = bytes[1];
-    cell[2] = bytes[2];
-    cell[3] = bytes[3];
-    cell[4] = bytes[4];
-    cell[5] = bytes[5];
-    cell[6] = bytes[6];
-    cell[7] = bytes[7];
-}
-
-pub fn put_cell(board: &mut [u8], at: usize, bytes: [u8; 8])
-    requires { at + 8 ≤ length board.old }
-    ensures { board.new ≡ splice at bytes board.old }
-{
-    write_cell(&mut board[at..at + 8], bytes);
+    board[at..at + N].copy_from_slice(&bytes);
 }

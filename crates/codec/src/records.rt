@@ -7,7 +7,7 @@ ghost use Rattle.model.specs.Figure.{figure_bytes};
 ghost use Rattle.model.specs.Layout.{read_record, lay_record, put_changes, steps_is, met_is};
 ghost use Rattle.codec.specs.Parts.{steps_read, meeting, met_read, phase_part, collected_part, started_part};
 
-use crate::cells::put_cell;
+use crate::cells::put;
 use figures::pairs::{pair_at, pair_bytes};
 use figures::{figure_at, figure_bytes};
 use model::Record;
@@ -37,45 +37,28 @@ pub fn record_at(s: &[u8], at: usize) -> Record
     requires { at + 24 ≤ length s.now }
     ensures { result ≡ read_record (part at 24 s.now) }
 {
-    let mut r = station_at(s, at);
-    r.met = s[at + 6];
-    r
+    Record {
+        met: s[at + 6],
+        ..station_at(s, at)
+    }
 }
 
-// Three cells of eight bytes, one after another.
 pub fn put_record(board: &mut [u8], at: usize, r: Record)
     requires { at + 24 ≤ length board.old }
     ensures { board.new ≡ splice at (lay_record r) board.old }
 {
-    let v = figure_bytes(r.proposal);
-    let x = figure_bytes(r.carried);
-    let y = figure_bytes(r.best);
-    let k = pair_bytes(r.steps);
-    put_cell(
+    put(
         board,
         at,
         [
             r.phase, r.position, r.island, r.seen, r.highest, r.flag, r.met, 0,
         ],
     );
-    put_cell(
-        board,
-        at + 8,
-        [v[0], v[1], v[2], v[3], x[0], x[1], x[2], x[3]],
-    );
-    put_cell(board, at + 16, [y[0], y[1], y[2], y[3], k[0], k[1], 0, 0]);
-}
-
-// Stored byte by byte, which compiles to one store; an array that is copied would be put together by shifts.
-fn put_figure(board: &mut [u8], at: usize, v: i32)
-    requires { at + 4 ≤ length board.old }
-    ensures { board.new ≡ splice at (figure_bytes v) board.old }
-{
-    let f = figure_bytes(v);
-    board[at] = f[0];
-    board[at + 1] = f[1];
-    board[at + 2] = f[2];
-    board[at + 3] = f[3];
+    put(board, at + 8, figure_bytes(r.proposal));
+    put(board, at + 12, figure_bytes(r.carried));
+    put(board, at + 16, figure_bytes(r.best));
+    put(board, at + 20, pair_bytes(r.steps));
+    put(board, at + 22, [0, 0]);
 }
 
 // One more in the steps, where the rest of the record stands already. They are read here and not handed over, so that the
@@ -84,9 +67,8 @@ pub fn count_step(board: &mut [u8], at: usize)
     requires { (at + 24 ≤ length board.old) × (steps_read at board.old < 65535) }
     ensures { board.new ≡ put_changes (steps_is (steps_read at board.old + 1) ∷ []) at board.old }
 {
-    let k = pair_bytes(pair_at(board, at + 20) + 1);
-    board[at + 20] = k[0];
-    board[at + 21] = k[1];
+    let steps = pair_at(board, at + 20) + 1;
+    put(board, at + 20, pair_bytes(steps));
 }
 
 // One more in what was met, in the same way. An empty register does not come here.
@@ -94,7 +76,7 @@ pub fn count_met(board: &mut [u8], at: usize)
     requires { (at + 24 ≤ length board.old) × (met_read at board.old < 255) }
     ensures { board.new ≡ put_changes (met_is (met_read at board.old + 1) ∷ []) at board.old }
 {
-    board[at + 6] = board[at + 6] + 1;
+    board[at + 6] += 1;
 }
 
 // Three parts of a record, each put where the rest of it stands already. The end of a collect clears what it met.
@@ -112,7 +94,7 @@ pub fn put_collected(board: &mut [u8], at: usize, r: Record)
     board[at + 1] = r.position;
     board[at + 3] = r.seen;
     board[at + 4] = r.highest;
-    put_figure(board, at + 16, r.best);
+    put(board, at + 16, figure_bytes(r.best)); // the steps behind it stay
 }
 
 pub fn put_started(board: &mut [u8], at: usize, r: Record)
@@ -123,6 +105,6 @@ pub fn put_started(board: &mut [u8], at: usize, r: Record)
     board[at + 2] = r.island;
     board[at + 5] = r.flag;
     board[at + 6] = 0;
-    put_figure(board, at + 12, r.carried);
+    put(board, at + 12, figure_bytes(r.carried));
     put_collected(board, at, r);
 }

@@ -4,7 +4,7 @@ ghost use Rattle.std.specs.Prelude.{◌≡◌, ◌+◌, ◌≤◌, length};
 ghost use Rattle.model.specs.Bytes.{part, splice};
 ghost use Rattle.model.specs.Layout.{read_register, lay_register};
 
-use crate::cells::write_cell;
+use crate::cells::put;
 use figures::{figure_at, figure_bytes};
 use model::Register;
 
@@ -23,8 +23,8 @@ fn write_register(cell: &mut [u8], r: Register)
     requires { length cell.old ≡ 8 }
     ensures { cell.new ≡ lay_register r }
 {
-    let f = figure_bytes(r.figure);
-    write_cell(cell, [r.mark, r.island, 0, 0, f[0], f[1], f[2], f[3]]);
+    put(cell, 0, [r.mark, r.island, 0, 0]);
+    put(cell, 4, figure_bytes(r.figure));
 }
 
 // The register's part is lent from the middle of the board.

@@ -78,6 +78,30 @@ station_read b at v x y s h ev ex ey es = λ i. record {
 }
 
 pub record_read : (b : List ℕ) (at : ℕ) (f : Record) → f ≡ meeting 0 (read_record (part at 24 b))
-    → meeting (byte b (at + 6)) f ≡ read_record (part at 24 b)
+    → record {
+      phase = f.phase;
+      position = f.position;
+      island = f.island;
+      seen = f.seen;
+      highest = f.highest;
+      flag = f.flag;
+      proposal = to_z w32 (of_z w32 f.proposal);
+      carried = to_z w32 (of_z w32 f.carried);
+      best = to_z w32 (of_z w32 f.best);
+      steps = f.steps;
+      met = byte b (at + 6);
+    } ≡ read_record (part at 24 b)
 unfolding read_record changed
-record_read b at f e = λ i. meeting (byte_at at 24 b 6 (lit< tt) i) (e i)
+record_read b at f e = λ i. record {
+  phase = (e i).phase;
+  position = (e i).position;
+  island = (e i).island;
+  seen = (e i).seen;
+  highest = (e i).highest;
+  flag = (e i).flag;
+  proposal = returned f.proposal (part 8 4 (part at 24 b)) (ap (λ (g : Record). g.proposal) e) i;
+  carried = returned f.carried (part 12 4 (part at 24 b)) (ap (λ (g : Record). g.carried) e) i;
+  best = returned f.best (part 16 4 (part at 24 b)) (ap (λ (g : Record). g.best) e) i;
+  steps = (e i).steps;
+  met = byte_at at 24 b 6 (lit< tt) i;
+}

@@ -1,33 +1,14 @@
--- The stores of the functions that put a figure or a part of a record: each store is a splice of its field.
+-- The stores of the functions that put a part of a record: each store is a splice of its field.
 -- Relies on the laws on splices of the crate model; the proofs of those functions rely on it.
-use Rattle.model.proofs.Kit.{◌≡◌, refl, sym, ap, ◌∙◌, List, [], ◌∷◌, ℕ, suc, ◌+◌, ◌≤◌, ◌<◌, lit<, lit≤, length, set}
+use Rattle.model.proofs.Kit.{◌≡◌, refl, sym, ap, ◌∙◌, List, [], ◌∷◌, ℕ, ◌+◌, ◌≤◌, ◌<◌, lit<, lit≤, length, set}
 use Rattle.model.proofs.Kit.{length-set, add-zero, arith}
-use lib.Seq.{sets-eq}
 use Rattle.model.specs.declared.Record.{Record}
 use Rattle.model.specs.Bytes.{byte, number, part, splice, digits}
-use Rattle.model.specs.Figure.{Figure, figure_bytes}
+use Rattle.model.specs.Figure.{figure_bytes}
 use Rattle.model.specs.Layout.{read_record, put_changes, steps_is, met_is}
 use Rattle.model.proofs.Basics.Splices.{splice_set}
 use Rattle.codec.specs.Parts.{steps_read, met_read, phase_part, collected_part, started_part}
 use Rattle.codec.proofs.Laws.Reads.{part_part, byte_at}
-
-pub figure_put : (v : Figure) (at : ℕ) (b f : List ℕ) → at + 4 ≤ length b → f ≡ figure_bytes v
-    → set (set (set (set b at (byte f 0)) (at + 1) (byte f 1)) (at + 2) (byte f 2)) (at + 3) (byte f 3)
-    ≡ splice at (figure_bytes v) b
-unfolding splice figure_bytes digits
-figure_put v at b f h e =
-    (λ k. set (set (set (set b at (byte (e k) 0)) (one k) (byte (e k) 1)) (two k) (byte (e k) 2)) (three k)
-    (byte (e k) 3))
-    ∙ sets-eq (figure_bytes v) b at (omega arith)
-  where
-    one : at + 1 ≡ suc at
-    one = omega arith
-
-    two : at + 2 ≡ suc (suc at)
-    two = omega arith
-
-    three : at + 3 ≡ suc (suc (suc at))
-    three = omega arith
 
 -- the steps as they are read, and one more of them put
 module _ (at : ℕ) (b : List ℕ) (h : at + 24 ≤ length b) (x : ℕ) (e : x ≡ number (part (at + 20) 2 b)) where
@@ -38,16 +19,10 @@ module _ (at : ℕ) (b : List ℕ) (h : at + 24 ≤ length b) (x : ℕ) (e : x �
   pub steps_fit : steps_read at b < 65535 → x + 1 < 65536
   steps_fit l = omega (arith, steps_read_lem)
 
-  pub steps_put : (k : List ℕ) → k ≡ digits 2 (x + 1)
-      → set (set b (at + 20) (byte k 0)) (at + 21) (byte k 1) ≡ put_changes (steps_is (steps_read at b + 1) ∷ []) at b
-  unfolding put_changes splice digits
-  steps_put k q =
-      (λ i. set (set b (at + 20) (byte (q i) 0)) (next i) (byte (q i) 1))
-      ∙ sets-eq (digits 2 (x + 1)) b (at + 20) (omega arith)
-      ∙ ap (λ (y : ℕ). splice (at + 20) (digits 2 (y + 1)) b) steps_read_lem
-    where
-      next : at + 21 ≡ suc (at + 20)
-      next = omega arith
+  pub steps_put : (k d : List ℕ) → k ≡ digits 2 (x + 1) → d ≡ splice (at + 20) k b
+      → d ≡ put_changes (steps_is (steps_read at b + 1) ∷ []) at b
+  unfolding put_changes
+  steps_put k d q e = e ∙ ap (λ (l : List ℕ). splice (at + 20) l b) (q ∙ ap (λ (y : ℕ). digits 2 (y + 1)) steps_read_lem)
 
 -- what was met as it is read, and one more of it put
 module _ (at : ℕ) (b : List ℕ) (h : at + 24 ≤ length b) where
@@ -84,23 +59,23 @@ module _ (r : Record) (at : ℕ) (b : List ℕ) (h : at + 24 ≤ length b) where
     is = splice_set (at + i) a p (omega (arith, s.long)) ∙ ap (splice (at + i) (a ∷ [])) s.is;
   }
 
-  pub collected_put : (y : Figure) (d : List ℕ) → y ≡ r.best
-      → d ≡ splice (at + 16) (figure_bytes y)
+  pub collected_put : (f d : List ℕ) → f ≡ figure_bytes r.best
+      → d ≡ splice (at + 16) f
       (set (set (set b (at + 1) r.position) (at + 3) r.seen) (at + 4) r.highest)
       → d ≡ put_changes (collected_part r) at b
   unfolding put_changes collected_part
-  collected_put y d e q =
+  collected_put f d e q =
       let start : After (length b) b b = record { long = refl; is = refl } in
       let stores = then 4 r.highest (lit< tt) (then 3 r.seen (lit< tt) (then 1 r.position (lit< tt) start)) in
-      q ∙ (λ k. splice (at + 16) (figure_bytes (e k)) (stores.is k))
+      q ∙ (λ k. splice (at + 16) (e k) (stores.is k))
 
-  pub started_put : (x : Figure) (c d : List ℕ) → x ≡ r.carried
-      → c ≡ splice (at + 12) (figure_bytes x)
+  pub started_put : (f c d : List ℕ) → f ≡ figure_bytes r.carried
+      → c ≡ splice (at + 12) f
       (set (set (set (set b at r.phase) (at + 2) r.island) (at + 5) r.flag) (at + 6) 0)
       → d ≡ put_changes (collected_part r) at c → d ≡ put_changes (started_part r) at b
   unfolding put_changes started_part
-  started_put x c d e ec ed =
+  started_put f c d e ec ed =
       let start : After (length b) (set b at r.phase) (splice (at + 0) (r.phase ∷ []) b) =
       record { long = simp length-set; is = first_put } in
       let stores = then 6 0 (lit< tt) (then 5 r.flag (lit< tt) (then 2 r.island (lit< tt) start)) in
-      ed ∙ ap (put_changes (collected_part r) at) (ec ∙ (λ k. splice (at + 12) (figure_bytes (e k)) (stores.is k)))
+      ed ∙ ap (put_changes (collected_part r) at) (ec ∙ (λ k. splice (at + 12) (e k) (stores.is k)))

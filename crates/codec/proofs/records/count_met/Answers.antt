@@ -1,14 +1,10 @@
 -- `count_met`: one store of the byte that was read, and one more.
 use Rattle.std.proofs.Common.{rules}
-use Rattle.model.proofs.Kit.{length-set}
 use Rattle.codec.proofs.Laws.Stores.{met_fits, met_put}
 use Rattle.codec.proofs.records.count_met.Goals as goal
 
 pub overflow_add-board-2 : goal.overflow_add-board-2
 overflow_add-board-2 c = search (met_fits, rules)
-
-pub shape_of-board : goal.shape_of-board
-shape_of-board c = simp length-set
 
 pub returns : goal.returns
 returns c = search met_put
