@@ -4,13 +4,14 @@
 ghost use Rattle.std.specs.Prelude.{◌≡◌, ◌≤◌, length, drop};
 ghost use Rattle.model.specs.Forms.{board_row, propose_row, steps_row, show_row, rounds_row, single_in, together_in};
 ghost use Rattle.model.specs.Forms.{word_place, form_in, or_four, read_line};
-ghost use Rattle.sheet.specs.LineForms.{line_form};
+ghost use Rattle.sheet.specs.LineForms.{told, line_form};
 
 use brackets::{closes, opens_pair, too_deep};
-use item_reader::{Counted, items};
-use lexer::number::{FoundFigure, FoundNumber, spaced_figure, spaced_number};
-use lexer::word::{FormWord, Named, first_word, form_named};
-use list_laws::Listed;
+use item_reader::items;
+use lexer::At;
+use lexer::number::{spaced_figure, spaced_number};
+use lexer::word::{FormWord, first_word, form_named};
+use model::refusal::Refusal;
 use pair_reader::pair_list;
 use round_reader::round_list;
 
@@ -26,76 +27,61 @@ pub enum LineForm {
     Show,
     Rounds { at: usize, rounds: usize, needs: u8 },
     Proposals { at: usize, pairs: usize },
-    Refused { number: u8 },
 }
 
-fn board_form(line: &[u8], at: usize) -> LineForm
-    ensures { result ≡ line_form at (or_four (board_row.reader (drop at line.now))) }
+fn board_form(line: &[u8], at: usize) -> Result<LineForm, Refusal>
+    ensures { told result ≡ line_form at (or_four (board_row.reader (drop at line.now))) }
 {
-    let FoundNumber::At {
-        value: n,
-        next: second,
-    } = spaced_number(line, at)
-    else {
-        return LineForm::Refused { number: 4 };
+    let Ok(n) = spaced_number(line, at) else {
+        return Err(Refusal::NoForm);
     };
-    let FoundNumber::At { value: k, next } = spaced_number(line, second) else {
-        return LineForm::Refused { number: 4 };
+    let Ok(k) = spaced_number(line, n.next) else {
+        return Err(Refusal::NoForm);
     };
-    if closes(line, next) {
-        return LineForm::Board {
-            n: n as u8,
-            k: k as u8,
-        };
+    if closes(line, k.next) {
+        return Ok(LineForm::Board {
+            n: n.value as u8,
+            k: k.value as u8,
+        });
     }
-    LineForm::Refused { number: 4 }
+    Err(Refusal::NoForm)
 }
 
-fn single_form(line: &[u8], at: usize) -> LineForm
-    ensures { result ≡ line_form at (or_four (single_in (drop at line.now))) }
+fn single_form(line: &[u8], at: usize) -> Result<LineForm, Refusal>
+    ensures { told result ≡ line_form at (or_four (single_in (drop at line.now))) }
 {
-    let FoundNumber::At {
-        value: station,
-        next: second,
-    } = spaced_number(line, at)
-    else {
-        return LineForm::Refused { number: 4 };
+    let Ok(station) = spaced_number(line, at) else {
+        return Err(Refusal::NoForm);
     };
-    let FoundFigure::At {
-        value: figure,
-        next,
-    } = spaced_figure(line, second)
-    else {
-        return LineForm::Refused { number: 4 };
+    let Ok(figure) = spaced_figure(line, station.next) else {
+        return Err(Refusal::NoForm);
     };
-    if closes(line, next) {
-        return LineForm::Propose {
-            station: station as u8,
-            figure,
-        };
+    if closes(line, figure.next) {
+        return Ok(LineForm::Propose {
+            station: station.value as u8,
+            figure: figure.value,
+        });
     }
-    LineForm::Refused { number: 4 }
+    Err(Refusal::NoForm)
 }
 
-fn together_form(line: &[u8], at: usize) -> LineForm
-    ensures { result ≡ line_form at (or_four (together_in (drop at line.now))) }
+fn together_form(line: &[u8], at: usize) -> Result<LineForm, Refusal>
+    ensures { told result ≡ line_form at (or_four (together_in (drop at line.now))) }
 {
-    let Listed::At {
-        count,
-        needs: _,
-        next,
-    } = pair_list(line, at)
-    else {
-        return LineForm::Refused { number: 4 };
+    let Ok(pairs) = pair_list(line, at) else {
+        return Err(Refusal::NoForm);
     };
-    if next < line.len() {
-        return LineForm::Refused { number: 4 };
+    if pairs.next < line.len() {
+        return Err(Refusal::NoForm);
     }
-    LineForm::Proposals { at, pairs: count }
+    Ok(LineForm::Proposals {
+        at,
+        pairs: pairs.value.count,
+    })
 }
 
-fn propose_form(line: &[u8], at: usize) -> LineForm
-    ensures { result ≡ line_form at (or_four (propose_row.reader (drop at line.now))) }
+fn propose_form(line: &[u8], at: usize) -> Result<LineForm, Refusal>
+    ensures { told result ≡ line_form at (or_four (propose_row.reader (drop at line.now))) }
 {
     if opens_pair(line, at) {
         return together_form(line, at);
@@ -103,58 +89,54 @@ fn propose_form(line: &[u8], at: usize) -> LineForm
     single_form(line, at)
 }
 
-fn steps_form(line: &[u8], at: usize) -> LineForm
-    ensures { result ≡ line_form at (or_four (steps_row.reader (drop at line.now))) }
+fn steps_form(line: &[u8], at: usize) -> Result<LineForm, Refusal>
+    ensures { told result ≡ line_form at (or_four (steps_row.reader (drop at line.now))) }
 {
-    let Counted::Steps { count, next } = items(line, at) else {
-        return LineForm::Refused { number: 4 };
+    let Ok(At { value: count, next }) = items(line, at) else {
+        return Err(Refusal::NoForm);
     };
     if next < line.len() {
-        return LineForm::Refused { number: 4 };
+        return Err(Refusal::NoForm);
     }
-    LineForm::Steps { at, count }
+    Ok(LineForm::Steps { at, count })
 }
 
-fn show_form(line: &[u8], at: usize) -> LineForm
+fn show_form(line: &[u8], at: usize) -> Result<LineForm, Refusal>
     requires { at ≤ length line.now }
-    ensures { result ≡ line_form at (or_four (show_row.reader (drop at line.now))) }
+    ensures { told result ≡ line_form at (or_four (show_row.reader (drop at line.now))) }
 {
     if closes(line, at) {
-        return LineForm::Show;
+        return Ok(LineForm::Show);
     }
-    LineForm::Refused { number: 4 }
+    Err(Refusal::NoForm)
 }
 
-fn rounds_form(line: &[u8], at: usize) -> LineForm
-    ensures { result ≡ line_form at (or_four (rounds_row.reader (drop at line.now))) }
+fn rounds_form(line: &[u8], at: usize) -> Result<LineForm, Refusal>
+    ensures { told result ≡ line_form at (or_four (rounds_row.reader (drop at line.now))) }
 {
-    let FoundNumber::At {
-        value: k,
-        next: first,
-    } = spaced_number(line, at)
-    else {
-        return LineForm::Refused { number: 4 };
+    let Ok(k) = spaced_number(line, at) else {
+        return Err(Refusal::NoForm);
     };
-    let Listed::At { count, needs, next } = round_list(line, first, k as u8) else {
-        return LineForm::Refused { number: 4 };
+    let Ok(rounds) = round_list(line, k.next, k.value as u8) else {
+        return Err(Refusal::NoForm);
     };
-    if next < line.len() {
-        return LineForm::Refused { number: 4 };
+    if rounds.next < line.len() {
+        return Err(Refusal::NoForm);
     }
-    LineForm::Rounds {
+    Ok(LineForm::Rounds {
         at,
-        rounds: count,
-        needs,
-    }
+        rounds: rounds.value.count,
+        needs: rounds.value.needs,
+    })
 }
 
-fn form(line: &[u8]) -> LineForm
-    ensures { result ≡ line_form (word_place line.now) (or_four (form_in line.now)) }
+fn form(line: &[u8]) -> Result<LineForm, Refusal>
+    ensures { told result ≡ line_form (word_place line.now) (or_four (form_in line.now)) }
 {
     let part = first_word(line);
     let at = part.len() + 1;
-    let Named::Form { word } = form_named(part) else {
-        return LineForm::Refused { number: 4 };
+    let Some(word) = form_named(part) else {
+        return Err(Refusal::NoForm);
     };
     match word {
         FormWord::Board => board_form(line, at),
@@ -166,14 +148,14 @@ fn form(line: &[u8]) -> LineForm
 }
 
 // A line of any content and length, without its LF.
-pub fn read_line(line: &[u8]) -> LineForm
-    ensures { result ≡ line_form (word_place line.now) (read_line line.now) }
+pub fn read_line(line: &[u8]) -> Result<LineForm, Refusal>
+    ensures { told result ≡ line_form (word_place line.now) (read_line line.now) }
 {
     if 255 < line.len() {
-        return LineForm::Refused { number: 2 };
+        return Err(Refusal::LineTooLong);
     }
     if too_deep(line) {
-        return LineForm::Refused { number: 3 };
+        return Err(Refusal::BracketsTooDeep);
     }
     form(line)
 }

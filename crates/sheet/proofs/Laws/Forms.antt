@@ -6,30 +6,25 @@ use Rattle.model.proofs.Kit.{◌≤◌, ◌<◌, ℤ, length, drop, drop_of_leng
 use Rattle.model.specs.Show.{text}
 use Rattle.model.specs.Forms as forms
 use Rattle.model.specs.Forms.{Items, Read, found, and_then, items_in, round_in, rounds_in, expand, closing, board_row}
-use Rattle.model.specs.Forms.{single_in, steps_row, rounds_row, show_row, same, reads, or_four}
-use Rattle.lexer.specs.declared.number.FoundNumber.{FoundNumber}
-use Rattle.lexer.specs.declared.number.FoundNumber.TheVariants as numbers
-use Rattle.lexer.specs.declared.number.FoundFigure.{FoundFigure}
-use Rattle.lexer.specs.declared.number.FoundFigure.TheVariants as signed
-use Rattle.item_reader.specs.declared.Counted.{Counted}
-use Rattle.item_reader.specs.declared.Counted.TheVariants as counts
+use Rattle.model.specs.Forms.{single_in, steps_row, rounds_row, show_row, same, Reading, reads, unread, or_four}
+use Rattle.std.specs.Prelude.{Ok, Err}
+use Rattle.std.specs.declared.result.Result.{Result}
+use Rattle.model.specs.declared.refusal.Refusal.{Refusal}
+use Rattle.lexer.specs.declared.At.{At}
 use Rattle.list_laws.specs.declared.Listed.{Listed}
-use Rattle.list_laws.specs.declared.Listed.TheVariants as lists
-use Rattle.sheet.specs.declared.form.LineForm.TheVariants.{Board, Propose, Steps, Rounds, Show, Refused}
+use Rattle.sheet.specs.declared.form.LineForm.TheVariants.{Board, Propose, Steps, Rounds, Show}
 use Rattle.halts.specs.Needs.{needs}
-use Rattle.lexer.specs.Placed.{SpacedIs, FigureIs}
-use Rattle.item_reader.specs.Counts.{capped, counted_at, sized, ItemsAre}
-use Rattle.list_laws.specs.Lists.{read_as, Summary, summary, listed_at, ListIs}
+use Rattle.lexer.specs.Placed.{placed, SpacedIs, FigureIs}
+use Rattle.item_reader.specs.Counts.{capped, sized, ItemsAre}
+use Rattle.list_laws.specs.Lists.{read_as, summary, ListIs}
 use Rattle.sheet.specs.LineForms.{line_form}
 use Rattle.lexer.proofs.Laws.Places.{here}
-use Rattle.lexer.proofs.Laws.Spaced.{number_missed, number_found, number_inside, figure_missed, figure_found}
-use Rattle.lexer.proofs.Laws.Spaced.{figure_inside}
-use Rattle.item_reader.proofs.Laws.Items.{counted_missed, counted_found}
-use Rattle.list_laws.proofs.Laws.Lists.{as_none, as_found, listed_missed, listed_found}
+use Rattle.lexer.proofs.Laws.Answers.{missed, there, inside, number_inside}
+use Rattle.list_laws.proofs.Laws.Lists.{as_none, as_found}
 
 -- what the code answers of a form that is missing, and of one that was read
 module _ (at : ℕ) {o : Option forms.Form} where
-  missing : o ≡ none → Refused 4 ≡ line_form at (or_four o)
+  missing : o ≡ none → unread 4 ≡ line_form at (or_four o)
   unfolding or_four line_form
   missing e = rw e
 
@@ -37,82 +32,82 @@ module _ (at : ℕ) {o : Option forms.Form} where
   unfolding or_four
   given e = rw e
 
-module _ (line : List ℕ) (at : ℕ) (first : FoundNumber) (is : SpacedIs line at first) where
-  pub board_no_first : (k : ℕ) → first ≡ numbers.Refused k
-      → Refused 4 ≡ line_form at (or_four (board_row.reader (drop at line)))
+module _ (line : List ℕ) (at : ℕ) (first : Result (At ℕ) Refusal) (is : SpacedIs line at first) where
+  pub board_no_first : (k : Refusal) → first ≡ Err k
+      → unread 4 ≡ line_form at (or_four (board_row.reader (drop at line)))
   unfolding board_row and_then
-  board_no_first k e = missing at (rw (number_missed line first _ is.reads k e))
+  board_no_first k e = missing at (rw (missed (λ v. v) line first _ is.reads k e))
 
-  pub propose_no_first : (k : ℕ) → first ≡ numbers.Refused k
-      → Refused 4 ≡ line_form at (or_four (single_in (drop at line)))
+  pub propose_no_first : (k : Refusal) → first ≡ Err k
+      → unread 4 ≡ line_form at (or_four (single_in (drop at line)))
   unfolding single_in and_then
-  propose_no_first k e = missing at (rw (number_missed line first _ is.reads k e))
+  propose_no_first k e = missing at (rw (missed (λ v. v) line first _ is.reads k e))
 
-  module _ (n next : ℕ) (e : first ≡ numbers.At n next) where
-    module _ (second : FoundNumber) (more : SpacedIs line next second) where
-      pub board_no_second : (j : ℕ) → second ≡ numbers.Refused j
-          → Refused 4 ≡ line_form at (or_four (board_row.reader (drop at line)))
+  module _ (n : At ℕ) (e : first ≡ Ok n) where
+    module _ (second : Result (At ℕ) Refusal) (more : SpacedIs line n.next second) where
+      pub board_no_second : (j : Refusal) → second ≡ Err j
+          → unread 4 ≡ line_form at (or_four (board_row.reader (drop at line)))
       unfolding board_row and_then found
       board_no_second j q =
           missing at (rw (
-            number_found line first _ is.reads n next e,
-            number_missed line second _ more.reads j q,
+            there (λ v. v) line first _ is.reads n e,
+            missed (λ v. v) line second _ more.reads j q,
           ))
 
-      module _ (k last : ℕ) (q : second ≡ numbers.At k last) where
-        pub board_behind : last ≤ length line
-        board_behind = (number_inside line next 0 99 second more.inside k last q).1
+      module _ (k : At ℕ) (q : second ≡ Ok k) where
+        pub board_behind : k.next ≤ length line
+        board_behind = (number_inside line n.next 0 99 second more.inside k q).1
 
-        module _ (t : Bool) (closes : t ≡ same (drop last line) (text ")")) where
-          closed_by : {x : Bool} → t ≡ x → board_row.reader (drop at line) ≡ cond x (some (forms.board n k)) none
+        module _ (t : Bool) (closes : t ≡ same (drop k.next line) (text ")")) where
+          closed_by : {x : Bool} → t ≡ x → board_row.reader (drop at line) ≡ cond x (some (forms.board n.value k.value)) none
           unfolding board_row and_then found closing
           closed_by e' =
               rw (
-                number_found line first _ is.reads n next e,
-                number_found line second _ more.reads k last q,
+                there (λ v. v) line first _ is.reads n e,
+                there (λ v. v) line second _ more.reads k q,
                 sym closes ∙ e',
               )
 
-          pub board_open : t ≡ false → Refused 4 ≡ line_form at (or_four (board_row.reader (drop at line)))
+          pub board_open : t ≡ false → unread 4 ≡ line_form at (or_four (board_row.reader (drop at line)))
           board_open h = missing at (closed_by h)
 
-          pub board_read : t ≡ true → Board n k ≡ line_form at (or_four (board_row.reader (drop at line)))
+          pub board_read : t ≡ true → reads (Board n.value k.value) ≡ line_form at (or_four (board_row.reader (drop at line)))
           unfolding line_form
           board_read h = given at (closed_by h)
 
-    module _ (second : FoundFigure) (more : FigureIs line next second) where
-      pub propose_no_second : (j : ℕ) → second ≡ signed.Refused j
-          → Refused 4 ≡ line_form at (or_four (single_in (drop at line)))
+    module _ (second : Result (At ℤ) Refusal) (more : FigureIs line n.next second) where
+      pub propose_no_second : (j : Refusal) → second ≡ Err j
+          → unread 4 ≡ line_form at (or_four (single_in (drop at line)))
       unfolding single_in and_then found
       propose_no_second j q =
           missing at (rw (
-            number_found line first _ is.reads n next e,
-            figure_missed line second _ more.reads j q,
+            there (λ v. v) line first _ is.reads n e,
+            missed (λ v. v) line second _ more.reads j q,
           ))
 
-      module _ (v : ℤ) (last : ℕ) (q : second ≡ signed.At v last) where
-        pub propose_behind : last ≤ length line
-        propose_behind = (figure_inside line next second more.inside v last q).1
+      module _ (v : At ℤ) (q : second ≡ Ok v) where
+        pub propose_behind : v.next ≤ length line
+        propose_behind = (inside line n.next second more.inside v q).1
 
-        module _ (t : Bool) (closes : t ≡ same (drop last line) (text ")")) where
+        module _ (t : Bool) (closes : t ≡ same (drop v.next line) (text ")")) where
           figure_closed_by : {x : Bool} → t ≡ x
-              → single_in (drop at line) ≡ cond x (some (forms.propose n v)) none
+              → single_in (drop at line) ≡ cond x (some (forms.propose n.value v.value)) none
           unfolding single_in and_then found closing
           figure_closed_by e' =
               rw (
-                number_found line first _ is.reads n next e,
-                figure_found line second _ more.reads v last q,
+                there (λ v. v) line first _ is.reads n e,
+                there (λ v. v) line second _ more.reads v q,
                 sym closes ∙ e',
               )
 
-          pub propose_open : t ≡ false → Refused 4 ≡ line_form at (or_four (single_in (drop at line)))
+          pub propose_open : t ≡ false → unread 4 ≡ line_form at (or_four (single_in (drop at line)))
           propose_open h = missing at (figure_closed_by h)
 
           -- the figure comes back by way of its bits
-          pub propose_read : t ≡ true → (z : ℤ) → z ≡ v
-              → Propose n z ≡ line_form at (or_four (single_in (drop at line)))
+          pub propose_read : t ≡ true → (z : ℤ) → z ≡ v.value
+              → reads (Propose n.value z) ≡ line_form at (or_four (single_in (drop at line)))
           unfolding line_form
-          propose_read h z bits = ap (Propose n) bits ∙ given at (figure_closed_by h)
+          propose_read h z bits = ap (λ (x : ℤ). reads (Propose n.value x)) bits ∙ given at (figure_closed_by h)
 
 -- ---- what must reach to the line's end
 
@@ -129,12 +124,12 @@ module _ {A : Type 0} (form : A → forms.Form) where
   up_to_end o = and_then o λ a rest. cond (same rest []) (some (form a)) none
 
   module _ (at : ℕ) (o : Option (Read A)) where
-    pub end_missing : o ≡ none → Refused 4 ≡ line_form at (or_four (up_to_end o))
+    pub end_missing : o ≡ none → unread 4 ≡ line_form at (or_four (up_to_end o))
     unfolding up_to_end and_then
     end_missing e = missing at (rw e)
 
     module _ (line : List ℕ) (a : A) (next : ℕ) (e : o ≡ found a (drop next line)) where
-      pub end_behind : next < length line → Refused 4 ≡ line_form at (or_four (up_to_end o))
+      pub end_behind : next < length line → unread 4 ≡ line_form at (or_four (up_to_end o))
       unfolding up_to_end and_then found
       end_behind h = missing at (rw (e, goes_on line next h))
 
@@ -142,77 +137,76 @@ module _ {A : Type 0} (form : A → forms.Form) where
       unfolding up_to_end and_then found
       end_read h = given at (rw (e, ends line next h))
 
-module _ (line : List ℕ) (at : ℕ) (r : Counted) (is : ItemsAre line at r) where
+module _ (line : List ℕ) (at : ℕ) (r : Result (At ℕ) Refusal) (is : ItemsAre line at r) where
   abbrev Found : Option (Read Items)
   Found = items_in (length (drop at line) + 1) (drop at line)
 
-  read_items : counted_at line r ≡ or_four (sized expand Found)
+  read_items : placed line r ≡ or_four (sized expand Found)
   read_items = is.reads (length (drop at line) + 1) (omega arith)
 
-  pub steps_missing : (k : ℕ) → r ≡ counts.Refused k
-      → Refused 4 ≡ line_form at (or_four (steps_row.reader (drop at line)))
+  pub steps_missing : (k : Refusal) → r ≡ Err k → unread 4 ≡ line_form at (or_four (steps_row.reader (drop at line)))
   unfolding steps_row up_to_end
-  steps_missing k e = end_missing forms.steps at Found (as_none _ _ (counted_missed line r _ read_items k e))
+  steps_missing k e = end_missing forms.steps at Found (as_none _ _ (missed (λ v. v) line r _ read_items k e))
 
-  module _ (count next : ℕ) (e : r ≡ counts.Steps count next) where
-    items : (is : Items) × (Found ≡ found is (drop next line)) × (capped (length (expand is)) ≡ count)
-    items = as_found _ _ _ _ (counted_found line r _ read_items count next e)
+  module _ (c : At ℕ) (e : r ≡ Ok c) where
+    items : (is : Items) × (Found ≡ found is (drop c.next line)) × (capped (length (expand is)) ≡ c.value)
+    items = as_found _ _ _ _ (there (λ v. v) line r _ read_items c e)
 
-    pub steps_behind : next < length line → Refused 4 ≡ line_form at (or_four (steps_row.reader (drop at line)))
+    pub steps_behind : c.next < length line → unread 4 ≡ line_form at (or_four (steps_row.reader (drop at line)))
     unfolding steps_row up_to_end
-    steps_behind h = end_behind forms.steps at Found line items.0 next items.1 h
+    steps_behind h = end_behind forms.steps at Found line items.0 c.next items.1 h
 
-    pub steps_read_lem : length line ≤ next → Steps at count ≡ line_form at (or_four (steps_row.reader (drop at line)))
+    pub steps_read_lem : length line ≤ c.next
+        → reads (Steps at c.value) ≡ line_form at (or_four (steps_row.reader (drop at line)))
     unfolding steps_row up_to_end line_form
     steps_read_lem h =
-        ap (Steps at) (sym items.2) ∙ end_read forms.steps at Found line items.0 next items.1 h
+        ap (λ (k : ℕ). reads (Steps at k)) (sym items.2) ∙ end_read forms.steps at Found line items.0 c.next items.1 h
 
 -- ---- rounds behind a number
 
-module _ (line : List ℕ) (at : ℕ) (first : FoundNumber) (is : SpacedIs line at first) where
-  pub rounds_no_number : (k : ℕ) → first ≡ numbers.Refused k
-      → Refused 4 ≡ line_form at (or_four (rounds_row.reader (drop at line)))
+module _ (line : List ℕ) (at : ℕ) (first : Result (At ℕ) Refusal) (is : SpacedIs line at first) where
+  pub rounds_no_number : (k : Refusal) → first ≡ Err k
+      → unread 4 ≡ line_form at (or_four (rounds_row.reader (drop at line)))
   unfolding rounds_row and_then
-  rounds_no_number k e = missing at (rw (number_missed line first _ is.reads k e))
+  rounds_no_number k e = missing at (rw (missed (λ v. v) line first _ is.reads k e))
 
-  module _ (k next : ℕ) (e : first ≡ numbers.At k next) (r : Listed)
-      (list : ListIs round_in (needs k) [] line next r) where
-    read_list : listed_at line r ≡ or_four (read_as (summary (needs k)) (rounds_in (drop next line)))
+  module _ (k : At ℕ) (e : first ≡ Ok k) (r : Result (At Listed) Refusal)
+      (list : ListIs round_in (needs k.value) [] line k.next r) where
+    read_list : placed line r ≡ or_four (read_as (summary (needs k.value)) (rounds_in (drop k.next line)))
     unfolding rounds_in
-    read_list = list.reads (length (drop next line) + 1) (omega arith)
+    read_list = list.reads (length (drop k.next line) + 1) (omega arith)
 
-    behind_number : rounds_row.reader (drop at line) ≡ up_to_end (forms.rounds k) (rounds_in (drop next line))
+    behind_number : rounds_row.reader (drop at line) ≡ up_to_end (forms.rounds k.value) (rounds_in (drop k.next line))
     unfolding rounds_row up_to_end and_then found
-    behind_number = rw (number_found line first _ is.reads k next e)
+    behind_number = rw (there (λ v. v) line first _ is.reads k e)
 
-    pub rounds_missing : (j : ℕ) → r ≡ lists.Refused j
-        → Refused 4 ≡ line_form at (or_four (rounds_row.reader (drop at line)))
+    pub rounds_missing : (j : Refusal) → r ≡ Err j → unread 4 ≡ line_form at (or_four (rounds_row.reader (drop at line)))
     rounds_missing j d =
         rw behind_number
-        (end_missing (forms.rounds k) at _ (as_none _ _ (listed_missed line r _ read_list j d)))
+        (end_missing (forms.rounds k.value) at _ (as_none _ _ (missed (λ v. v) line r _ read_list j d)))
 
-    module _ (count need after : ℕ) (d : r ≡ lists.At count need after) where
-      listed : (rs : List (List ℕ)) × (rounds_in (drop next line) ≡ found rs (drop after line))
-          × (summary (needs k) rs ≡ record { count = count; needs = need })
-      listed = as_found _ _ _ _ (listed_found line r _ read_list count need after d)
+    module _ (a : At Listed) (d : r ≡ Ok a) where
+      listed : (rs : List (List ℕ)) × (rounds_in (drop k.next line) ≡ found rs (drop a.next line))
+          × (summary (needs k.value) rs ≡ a.value)
+      listed = as_found _ _ _ _ (there (λ v. v) line r _ read_list a d)
 
-      pub rounds_behind : after < length line → Refused 4 ≡ line_form at (or_four (rounds_row.reader (drop at line)))
+      pub rounds_behind : a.next < length line → unread 4 ≡ line_form at (or_four (rounds_row.reader (drop at line)))
       rounds_behind h =
-          rw behind_number (end_behind (forms.rounds k) at _ line listed.0 after listed.1 h)
+          rw behind_number (end_behind (forms.rounds k.value) at _ line listed.0 a.next listed.1 h)
 
-      pub rounds_read : length line ≤ after
-          → Rounds at count need ≡ line_form at (or_four (rounds_row.reader (drop at line)))
+      pub rounds_read : length line ≤ a.next
+          → reads (Rounds at a.value.count a.value.needs) ≡ line_form at (or_four (rounds_row.reader (drop at line)))
       unfolding summary line_form
       rounds_read h =
-          ap (λ (s : Summary). Rounds at s.count s.needs) (sym listed.2)
-          ∙ rw behind_number (end_read (forms.rounds k) at _ line listed.0 after listed.1 h)
+          ap (λ (s : Listed). reads (Rounds at s.count s.needs)) (sym listed.2)
+          ∙ rw behind_number (end_read (forms.rounds k.value) at _ line listed.0 a.next listed.1 h)
 
 -- ---- `(show)`
 
-pub shows : (at : ℕ) (l : List ℕ) → same l (text ")") ≡ true → Show ≡ line_form at (or_four (show_row.reader l))
+pub shows : (at : ℕ) (l : List ℕ) → same l (text ")") ≡ true → reads Show ≡ line_form at (or_four (show_row.reader l))
 unfolding line_form or_four show_row closing
 shows at l e = simp e
 
-pub shows_not : (at : ℕ) (l : List ℕ) → same l (text ")") ≡ false → Refused 4 ≡ line_form at (or_four (show_row.reader l))
+pub shows_not : (at : ℕ) (l : List ℕ) → same l (text ")") ≡ false → unread 4 ≡ line_form at (or_four (show_row.reader l))
 unfolding line_form or_four show_row closing
 shows_not at l e = simp e

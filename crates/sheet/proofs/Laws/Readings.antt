@@ -11,19 +11,18 @@ use Rattle.model.proofs.Calls.Refusals.{unless_fails}
 use Rattle.halts.specs.Needs.{needs}
 use Rattle.sheet.specs.declared.form.LineForm.{LineForm}
 use Rattle.sheet.specs.declared.form.LineForm.TheVariants.{Board, Propose, Steps, Show, Rounds, Proposals}
-use Rattle.sheet.specs.declared.form.LineForm.TheVariants.{Refused}
 use Rattle.sheet.specs.LineForms.{line_form}
 
--- what the form f tells of the reading
-abbrev pub Tells : LineForm → Reading Form → Type 0
-Tells (Board n K) q = q ≡ reads (board n K)
-Tells (Propose i v) q = q ≡ reads (propose i v)
-Tells (Steps at c) q = (is : Items) × (q ≡ reads (steps is))
-Tells Show q = q ≡ reads show
-Tells (Rounds at n s) q =
+-- what the code's reading tells of the model's
+abbrev pub Tells : Reading LineForm → Reading Form → Type 0
+Tells (reads (Board n K)) q = q ≡ reads (board n K)
+Tells (reads (Propose i v)) q = q ≡ reads (propose i v)
+Tells (reads (Steps at c)) q = (is : Items) × (q ≡ reads (steps is))
+Tells (reads Show) q = q ≡ reads show
+Tells (reads (Rounds at n s)) q =
     (k : ℕ) × (rs : List (List ℕ)) × (q ≡ reads (rounds k rs)) × (n ≡ length rs) × (s ≡ needs k rs)
-Tells (Proposals at m) q = (ps : List Proposal) × (q ≡ reads (proposals ps)) × (m ≡ length ps)
-Tells (Refused k) q = q ≡ unread k
+Tells (reads (Proposals at m)) q = (ps : List Proposal) × (q ≡ reads (proposals ps)) × (m ≡ length ps)
+Tells (unread k) q = q ≡ unread k
 
 its_own : (at : ℕ) (q : Reading Form) → Tells (line_form at q) q
 unfolding line_form
@@ -35,8 +34,8 @@ its_own at (reads (rounds k rs)) = (k, rs, refl, refl, refl)
 its_own at (reads (proposals ps)) = (ps, refl, refl)
 its_own at (unread k) = refl
 
-pub read_as_lem : (at : ℕ) (q : Reading Form) (f : LineForm) → line_form at q ≡ f → Tells f q
-read_as_lem at q f e = subst (λ (g : LineForm). Tells g q) e (its_own at q)
+pub read_as_lem : (at : ℕ) (q : Reading Form) (f : Reading LineForm) → line_form at q ≡ f → Tells f q
+read_as_lem at q f e = subst (λ (g : Reading LineForm). Tells g q) e (its_own at q)
 
 -- ---- a line that is read has at most 255 bytes
 

@@ -6,12 +6,11 @@ use Rattle.model.specs.Show.{text, text_from}
 use Rattle.model.specs.Calls.{unless}
 use Rattle.model.specs.Forms.{same, board_row, propose_row, steps_row, show_row, rounds_row, word_rows, row_in, up_to_stop}
 use Rattle.model.specs.Forms.{first_word, word_place}
-use Rattle.model.specs.Forms.{form_in, too_deep, or_four, read_line}
+use Rattle.model.specs.Forms.{form_in, too_deep, Reading, unread, or_four, read_line}
 use Rattle.lexer.specs.declared.word.FormWord.{FormWord}
-use Rattle.lexer.specs.declared.word.Named.{Named}
-use Rattle.lexer.specs.declared.word.Named.TheVariants.{Form, Nothing}
+use Rattle.std.specs.Prelude.{Some, None}
+use Rattle.std.specs.declared.option.Option.{Option}
 use Rattle.sheet.specs.declared.form.LineForm.{LineForm}
-use Rattle.sheet.specs.declared.form.LineForm.TheVariants.{Refused}
 use Rattle.lexer.specs.Words.{word_row, named_row}
 use Rattle.model.proofs.Basics.Tests.{never}
 use Rattle.lexer.proofs.Laws.Words.{named_row_lem}
@@ -19,18 +18,18 @@ use Rattle.sheet.specs.LineForms.{line_form}
 
 -- ---- a word by its name
 
-module _ (l : List ℕ) (part : List ℕ) (is : part ≡ first_word l) (r : Named)
+module _ (l : List ℕ) (part : List ℕ) (is : part ≡ first_word l) (r : Option FormWord)
     (name : named_row r ≡ row_in word_rows part) where
-  pub no_form : r ≡ Nothing → Refused 4 ≡ line_form (word_place l) (or_four (form_in l))
+  pub no_form : r ≡ None → unread 4 ≡ line_form (word_place l) (or_four (form_in l))
   unfolding form_in or_four line_form named_row
   no_form e = rw (named_row_lem l part is r name ∙ ap named_row e, form_in)
 
-  module _ (v w : FormWord) (e : r ≡ Form v) (q : v ≡ w) where
+  module _ (v w : FormWord) (e : r ≡ Some v) (q : v ≡ w) where
     its_row : row_in word_rows (first_word l) ≡ some (word_row w)
     unfolding named_row
-    its_row = named_row_lem l part is r name ∙ ap named_row (e ∙ ap Form q)
+    its_row = named_row_lem l part is r name ∙ ap named_row (e ∙ ap Some q)
 
-    pub form_read : (x : LineForm) → x ≡ line_form (length part + 1)
+    pub form_read : (x : Reading LineForm) → x ≡ line_form (length part + 1)
         (or_four ((word_row w).reader (drop (length part + 1) l)))
         → x ≡ line_form (word_place l) (or_four (form_in l))
     unfolding form_in word_place
@@ -74,9 +73,9 @@ no_word = refl
 pub part_inside : (l part : List ℕ) → part ≡ first_word l → length part ≤ length l
 part_inside l part is = rw is (word_inside l)
 
-pub place_inside : (l part : List ℕ) → part ≡ first_word l → (r : Named) → named_row r ≡ row_in word_rows part
+pub place_inside : (l part : List ℕ) → part ≡ first_word l → (r : Option FormWord) → named_row r ≡ row_in word_rows part
     → (w : FormWord)
-    → r ≡ Form w → length part + 1 ≤ length l
+    → r ≡ Some w → length part + 1 ≤ length l
 place_inside l part is r name w e =
     rw is (bracketed l (λ empty. never _
     (sym (ap (row_in word_rows) empty ∙ no_word) ∙ its_row l part is r name w w e refl)))
@@ -84,16 +83,16 @@ place_inside l part is r name w e =
 -- ---- refusals 2 and 3
 
 module _ (l : List ℕ) where
-  pub too_long : 255 < length l → Refused 2 ≡ line_form (word_place l) (read_line l)
+  pub too_long : 255 < length l → unread 2 ≡ line_form (word_place l) (read_line l)
   unfolding read_line unless line_form
   too_long h = rw (lt-leb (length l) 255 h, read_line)
 
   module _ (short : length l ≤ 255) (t : Bool) (deep : t ≡ too_deep 0 0 l) where
-    pub nested : t ≡ true → Refused 3 ≡ line_form (word_place l) (read_line l)
+    pub nested : t ≡ true → unread 3 ≡ line_form (word_place l) (read_line l)
     unfolding read_line unless line_form
     nested e = rw (le-leb (length l) 255 short, sym deep ∙ e, read_line)
 
-    pub flat : t ≡ false → (x : LineForm) → x ≡ line_form (word_place l) (or_four (form_in l))
+    pub flat : t ≡ false → (x : Reading LineForm) → x ≡ line_form (word_place l) (or_four (form_in l))
         → x ≡ line_form (word_place l) (read_line l)
     unfolding read_line unless
     flat e x q = rw (le-leb (length l) 255 short, sym deep ∙ e, read_line) q

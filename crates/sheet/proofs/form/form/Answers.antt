@@ -1,10 +1,6 @@
 -- `form::form` meets its contract: the word in front names the form, and what follows it is read by that form's reader.
-use Rattle.model.proofs.Kit.{arith}
-use Rattle.sheet.proofs.Laws.WholeLine.{no_form, form_read, part_inside, place_inside}
+use Rattle.sheet.proofs.Laws.WholeLine.{no_form, form_read, place_inside}
 use Rattle.sheet.proofs.form.form.Goals as goal
-
-pub overflow_add-at : goal.overflow_add-at
-overflow_add-at c = omega (arith, part_inside _ _ c.first_word-part.ensures.bytes)
 
 pub returns-in_default : goal.returns-in_default
 returns-in_default c = search no_form

@@ -9,4 +9,4 @@ pub returns-then-next-line : goal.returns-then-next-line
 returns-then-next-line c = search steps_behind
 
 pub returns : goal.returns
-returns c = steps_read_lem _ _ _ (search) _ _ c.in-Steps.is (search)
+returns c = search steps_read_lem

@@ -5,8 +5,8 @@ use Rattle.sheet.proofs.form.together_form.Goals as goal
 pub returns-in_default : goal.returns-in_default
 returns-in_default c = search together_missing
 
-pub returns-then-next-line : goal.returns-then-next-line
-returns-then-next-line c = search together_behind
+pub returns-then-pairs-line : goal.returns-then-pairs-line
+returns-then-pairs-line c = search together_behind
 
 pub returns : goal.returns
 returns c = search together_read
