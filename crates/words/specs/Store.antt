@@ -1,6 +1,6 @@
 -- The word store: which words it has and in what order, and what it means that they are packed.
 -- Relies on the model's texts; the contracts of the store, and of whatever reads or writes a word, rely on it.
-use Rattle.std.specs.Prelude.{◌≡◌, cond, List, [], ◌∷◌, ℕ, suc, ◌+◌, ◌<◌, length, get_or, take, drop}
+use Rattle.std.specs.Prelude.{◌≡◌, cond, List, [], ◌∷◌, ℕ, suc, ◌<◌, length, get_or, take, drop, sum}
 use Rattle.model.specs.Show.{text}
 use Rattle.model.specs.Forms.{same}
 
@@ -24,10 +24,6 @@ word_text i = get_or words i []
 unfoldable pub index_in : List (List ℕ) → (t : List ℕ) → ℕ
 index_in [] t = 0
 index_in (w ∷ ws) t = cond (same t w) 0 (suc (index_in ws t))
-
-unfoldable pub sum : List ℕ → ℕ
-sum [] = 0
-sum (x ∷ xs) = x + sum xs
 
 -- "pack them into one store, each once, end to end with their lengths"
 pub record Packed (lengths letters : List ℕ) (words : List (List ℕ)) : Type 0 where

@@ -1,8 +1,8 @@
 // The words of the store by name: each constant is the place of its word in the store's order.
 // Relies on nothing; whoever reads or writes a word names it by one of these.
 
-// A word is looked for from the first one on, so that those come first that are looked up most: the word of an item, the kinds of a
-// tape line and the words of statuses, then the forms; words that come once a line, and are only written, stand behind them.
+// A word is looked for from the first one on, so that those come first that are looked up most: the word of an item, the kinds of
+// a tape line and the words of statuses, then the forms; words that come once a line, and are only written, stand behind them.
 pub const TIMES: usize = 0;
 
 pub const READ: usize = 1;

@@ -1,14 +1,12 @@
 // The word store: every word of a run sheet's forms and answers, of a tape line and of what is said of two tapes. Each stands
 // once, end to end with the others, beside the lengths of all; a word is named by its index.
-// Relies on the writer of lines and on the test of two parts for equality; nothing rests on it yet.
+// Relies on the writer of lines; nothing rests on it yet.
 #![tactic(auto)]
 
-ghost use Rattle.std.specs.Prelude.{◌≡◌};
-ghost use Rattle.line_writer.specs.Puts.{Puts, Room, line_of};
+ghost use Rattle.std.specs.Prelude.{◌≡◌, ◌+◌, ◌<◌, ◌≤◌, ◌++◌, length, unwrap_or, IfSome};
 ghost use Rattle.words.specs.Store.{Packed, words, word_text, index_in};
 
-use check::same;
-use line_writer::line::write_word;
+use line_writer::line::Line;
 
 pub mod index;
 
@@ -54,44 +52,39 @@ fn packed() -> Store
     WORDS
 }
 
-// The index of the word that a part is, and 22 where it is none.
-pub fn index_of(part: &[u8]) -> usize
-    ensures { result ≡ index_in words part.now }
+// The index of the word that a part is, if any. The number of all words stands for none in the definitions.
+pub fn index_of(part: &[u8]) -> Option<usize>
+    ensures index { unwrap_or result (length words) ≡ index_in words part.now }
+    ensures inside { IfSome result (λ word. word < length words) }
 {
     let store = packed();
     let lengths = store.lengths;
     let letters = store.letters;
-    let mut word = 0;
     let mut from = 0;
-    while from < 119 {
-        let end = from + lengths[word] as usize;
-        if same(part, &letters[from..end]) {
-            return word;
+    for (word, &length) in lengths.iter().enumerate() {
+        let end = from + usize::from(length);
+        if part == &letters[from..end] {
+            return Some(word);
         }
         from = end;
-        word += 1;
     }
-    word
+    None
 }
 
-// The word with an index, written at a place of the lent bytes of a line; what is handed back is where it ends. No text belongs
-// to an index that names no word.
-pub fn write_named(bytes: &mut [u8; 512], at: usize, word: usize) -> usize
-    requires { Room (line_of bytes.old at) (word_text word) }
-    ensures { Puts (line_of bytes.old at) (word_text word) (line_of bytes.new result) }
+// The word with an index, put at a line's end. No text belongs to an index that names no word.
+pub fn write_named(line: &mut Line, word: usize)
+    requires { length line.old + length (word_text word) ≤ 512 }
+    ensures { line.new ≡ line.old ++ word_text word }
 {
     let store = packed();
     let lengths = store.lengths;
     let letters = store.letters;
-    let mut before = 0;
-    let mut from = 0;
-    while from < 119 {
-        let end = from + lengths[before] as usize;
-        if before == word {
-            return write_word(bytes, at, &letters[from..end]);
-        }
-        from = end;
-        before += 1;
+    if let Some(&length) = lengths.get(word) {
+        let from: usize = lengths[..word]
+            .iter()
+            .map(|&length| usize::from(length))
+            .sum();
+        let end = from + usize::from(length);
+        line.push_word(&letters[from..end]);
     }
-    at
 }

@@ -1,93 +1,50 @@
--- The walk along the store, word by word: where the next word begins, and how far the walk has come.
+-- The store word by word: where a word's letters stand, and how far a search for a text has come.
 -- Relies on the definitions of the store; the proofs of index_of and write_named rely on it.
-use Rattle.model.proofs.Kit.{◌≡◌, refl, sym, ap, ◌∙◌, Bool, true, false, cond, ⊎_elim, List, [], ◌∷◌, ◌++◌, ℕ, zero}
-use Rattle.model.proofs.Kit.{suc, ◌+◌}
-use Rattle.model.proofs.Kit.{◌-◌, ◌≤◌, ◌<◌, length, take, drop, get_or, take_all, drop_of_length-le, add-one}
-use Rattle.model.proofs.Kit.{eq-or-lt_of_le, arith}
+use Rattle.model.proofs.Kit.{◌≡◌, refl, sym, ap, ◌∙◌, Bool, true, false, cond, List, [], ℕ, suc, ◌+◌}
+use Rattle.model.proofs.Kit.{◌-◌, ◌≤◌, ◌<◌, length, take, drop, get_or, drop_of_length-le, add-one, arith}
 use lib.Seq.{take-suc, drop-cons}
+use lib.Pointwise.{pointwise}
+use Rattle.std.specs.Prelude.{nat_eq, sum}
+use Rattle.std.proofs.lemmas.Slice.Eq.{slice_eq-Decides}
+use Rattle.std.proofs.lemmas.Bool.Decides.{Decides-eqb}
+use Rattle.std.proofs.lemmas.List.Sums.{sum_by_push, sum_by-take-le}
 use Rattle.model.specs.Forms.{same}
 use Rattle.model.specs.Show.{text, text_from}
 use Rattle.model.proofs.Sheet.SameTexts.{same_says}
-use Rattle.words.specs.Store.{index_in, sum, Packed, words}
+use Rattle.words.specs.Store.{index_in, Packed, words}
 
 pub words_count : length words ≡ 22
 unfolding words text text_from
 words_count = refl
 
-sum_append : (xs ys : List ℕ) → sum (xs ++ ys) ≡ sum xs + sum ys
-unfolding sum
-sum_append [] ys = omega arith
-sum_append (x ∷ xs) ys = omega (arith, sum_append xs ys)
-
 sum_next : (xs : List ℕ) (i : ℕ) → i < length xs → sum (take (suc i) xs) ≡ sum (take i xs) + get_or xs i 0
-unfolding sum
-sum_next xs i h = ap sum (take-suc xs i 0 h) ∙ sum_append (take i xs) (get_or xs i 0 ∷ []) ∙ omega arith
+sum_next xs i h = ap sum (take-suc xs i 0 h) ∙ sum_by_push (λ (x : ℕ). x) (take i xs) (get_or xs i 0)
 
-sum_part : (xs : List ℕ) (i : ℕ) → sum (take i xs) ≤ sum xs
-unfolding sum
-sum_part xs zero = omega arith
-sum_part [] (suc i) = omega arith
-sum_part (x ∷ xs) (suc i) = omega (arith, sum_part xs i)
+-- word i of a packed store, whose letters begin at `from`
+module _ {lengths letters : List ℕ} {ws : List (List ℕ)} (packed : Packed lengths letters ws) {i from : ℕ}
+    (h : i < length ws) (at : from ≡ sum (take i lengths)) where
+  next : sum (take (suc i) lengths) ≡ from + get_or lengths i 0
+  next = sum_next lengths i (omega (arith, packed.counted)) ∙ omega (arith, at)
 
-module _ (lengths letters : List ℕ) (ws : List (List ℕ)) where
-  -- the walk stands before word i, whose letters begin at `from`
-  pub record Before (i from : ℕ) : Type 0 where
-    pub packed : Packed lengths letters ws
-    pub inside : i ≤ length ws
-    pub begins : from ≡ sum (take i lengths)
+  pub begins_next : from + get_or lengths i 0 ≡ sum (take (i + 1) lengths)
+  begins_next = sym next ∙ ap (λ (k : ℕ). sum (take k lengths)) (sym (add-one i))
 
-  pub begun : Packed lengths letters ws → Before 0 0
-  unfolding sum
-  begun p = record { packed = p; inside = omega arith; begins = refl }
+  pub end_inside : from + get_or lengths i 0 ≤ length letters
+  end_inside = omega (arith, next, sum_by-take-le (λ (x : ℕ). x) lengths (suc i), packed.ends)
 
-  module _ {i from : ℕ} (at : Before i from) where
-    whole : i ≡ length ws → sum (take i lengths) ≡ sum lengths
-    whole e = ap sum (take_all i lengths (omega (arith, at.packed.counted)))
+  -- the part of the letters that the code takes is the word
+  pub part_is : take (from + get_or lengths i 0 - from) (drop from letters) ≡ get_or ws i []
+  part_is =
+      let n : from + get_or lengths i 0 - from ≡ get_or lengths i 0 = omega arith in
+      (λ j. take (n j) (drop (at j) letters)) ∙ packed.begins i h
 
-    -- where letters are left, so is a word
-    pub word_left : from < length letters → i < length ws
-    word_left h =
-        ⊎_elim (λ (e : i ≡ length ws). absurd (omega (arith, at.packed.ends, at.begins, whole e)))
-        (λ (l : i < length ws). l) (eq-or-lt_of_le at.inside)
-
-    -- and where none is left, no word is
-    pub none_left : length letters ≤ from → i ≡ length ws
-    none_left h =
-        ⊎_elim (λ (e : i ≡ length ws). e) (λ (l : i < length ws). absurd (omega (
-          arith,
-          at.packed.ends,
-          at.begins,
-          at.packed.some i l,
-          sum_next lengths i (omega (arith, at.packed.counted)),
-          sum_part lengths (suc i),
-        ))) (eq-or-lt_of_le at.inside)
-
-    module _ (h : from < length letters) where
-      next : sum (take (suc i) lengths) ≡ from + get_or lengths i 0
-      next = sum_next lengths i (omega (arith, at.packed.counted, word_left h)) ∙ omega (arith, at.begins)
-
-      pub end_inside : from + get_or lengths i 0 ≤ length letters
-      end_inside = omega (arith, next, sum_part lengths (suc i), at.packed.ends)
-
-      pub past : Before (i + 1) (from + get_or lengths i 0)
-      past = record {
-        packed = at.packed;
-        inside = omega (arith, word_left h);
-        begins = sym next ∙ ap (λ (k : ℕ). sum (take k lengths)) (sym (add-one i));
-      }
-
-      -- the part of the letters that the code takes is the word
-      pub part_is : take (from + get_or lengths i 0 - from) (drop from letters) ≡ get_or ws i []
-      part_is =
-          let n : from + get_or lengths i 0 - from ≡ get_or lengths i 0 = omega arith in
-          (λ j. take (n j) (drop (at.begins j) letters)) ∙ at.packed.begins i (word_left h)
-
-      -- and the code's test of it is that of the word
-      pub part_tested : (t part : List ℕ) → part ≡ take (from + get_or lengths i 0 - from) (drop from letters)
-          → (r s : Bool)
-          → (r ≡ true → t ≡ part) × (t ≡ part → r ≡ true) → r ≡ s → same t (get_or ws i []) ≡ s
-      part_tested t part bytes r s says e =
-          ap (same t) (sym (bytes ∙ part_is)) ∙ same_says t part r s says e
+  -- and the code's test of it is that of the word
+  pub part_tested : (t : List ℕ) (r s : Bool)
+      → r ≡ pointwise nat_eq t (take (from + get_or lengths i 0 - from) (drop from letters))
+      → r ≡ s → same t (get_or ws i []) ≡ s
+  part_tested t r s tested e =
+      same_says t (get_or ws i []) r s
+      (slice_eq-Decides Decides-eqb t (get_or ws i []) r (tested ∙ ap (pointwise nat_eq t) part_is)) e
 
 -- ---- looking for a text
 

@@ -1,41 +1,30 @@
--- A word of the store at the end of a line whose bytes the walk left as they were; an index that names no word; how
--- long words are.
--- Relies on the walk and on putting texts at the end of a line; the proof of write_named and those who write words rely
--- on it.
-use Rattle.model.proofs.Kit.{◌≡◌, sym, ap, subst, ◌∙◌, true, false, List, [], ℕ, ◌≤◌, ltb-true, ltb-false, leb, ltb}
+-- The word with an index as the code takes it from the store, an index that names no word, and how long words are.
+-- Relies on the walk along the store; the proof of write_named and those who write words rely on it.
+use Rattle.model.proofs.Kit.{◌≡◌, ap, ◌∙◌, true, false, List, [], ℕ, ◌+◌, ◌-◌, ◌≤◌, ◌<◌, ltb-true, ltb-false, leb, ltb}
 use Rattle.model.proofs.Kit.{leb→le, T}
-use Rattle.model.proofs.Kit.{length, get_or, arith}
+use Rattle.model.proofs.Kit.{length, take, drop, get_or, arith}
 use lib.ListN.{get_or-eq_default}
-use Rattle.line_writer.specs.declared.line.Line.{Line}
-use Rattle.line_writer.specs.Puts.{Puts, Room, line_of}
-use Rattle.line_writer.proofs.Putting.{puts_nothing, puts_same}
-use Rattle.line_writer.proofs.Rooms.{room_same}
 use Rattle.model.specs.Bytes.{every}
 use Rattle.model.specs.Show.{text, text_from}
 use Rattle.model.proofs.Basics.Tests.{every_at, by_test}
-use Rattle.words.specs.Store.{words, word_text}
+use Rattle.std.specs.Prelude.{sum}
+use Rattle.words.specs.Store.{words, word_text, Packed}
+use Rattle.words.proofs.Laws.Walking.{part_is}
 
--- the part that the code lends is the word before which the walk stands, and that is the one with the index
-module _ {index before : ℕ} (it : before ≡ index) {part : List ℕ} (is : part ≡ get_or words before []) where
-  text_is : part ≡ word_text index
-  unfolding word_text
-  text_is = is ∙ ap (λ (i : ℕ). get_or words i []) it
+-- ---- the text of an index
 
-  pub room_for_word : {at : ℕ} {now first : List ℕ} → now ≡ first → Room (line_of first at) (word_text index)
-      → Room (line_of now at) part
-  room_for_word {at} kept h = subst (λ (b : List ℕ). Room (line_of b at) part) (sym kept) (room_same (sym text_is) h)
-
-  pub word_put : {at : ℕ} {now first : List ℕ} {r : Line} → now ≡ first → Puts (line_of now at) part r
-      → Puts (line_of first at) (word_text index) r
-  word_put {at} {r = r} kept p =
-      subst (λ (b : List ℕ). Puts (line_of b at) (word_text index) r) kept (puts_same text_is p)
-
-pub no_word_put : {index at : ℕ} → length words ≤ index → {now first : List ℕ} → now ≡ first
-    → Puts (line_of first at) (word_text index) (line_of now at)
+-- the part of the letters that the code puts, k bytes from `from` on
+pub word_is : {lengths letters : List ℕ} (packed : Packed lengths letters words) {i from k : ℕ} → i < length words
+    → from ≡ sum (take i lengths)
+    → k ≡ get_or lengths i 0
+    → take (from + k - from) (drop from letters) ≡ word_text i
 unfolding word_text
-no_word_put {index} {at} h {now} {first} kept =
-    subst (λ (b : List ℕ). Puts (line_of b at) (word_text index) (line_of now at)) kept
-    (puts_same (sym (get_or-eq_default words [] {n = index} h)) (puts_nothing (line_of now at)))
+word_is {letters = letters} packed {from = from} h at long =
+    (λ j. take (from + long j - from) (drop from letters)) ∙ part_is packed h at
+
+pub no_word : {i : ℕ} → length words ≤ i → word_text i ≡ []
+unfolding word_text
+no_word {i} h = get_or-eq_default words [] {n = i} h
 
 -- ---- how long a word is
 
