@@ -7,12 +7,13 @@ ghost use Rattle.std.proofs.Common.{to_z};
 ghost use Rattle.model.specs.Calls.{board_refusal};
 ghost use Rattle.model.specs.AnyOrder.{AllAccepted};
 ghost use Rattle.model.specs.Proposals.{lent_pair, lent_pairs, pairs_refusal, one_by_one};
-ghost use Rattle.soundness.specs.Shaped.{numbered};
+ghost use Rattle.model.specs.Told.{verdict};
 ghost use Rattle.proposing.specs.Lent.{pair_of};
 
 use crate::single::put_in;
 use crate::trying::try_pair;
 use figures::{bits_of, signed};
+use model::refusal::Refusal;
 
 // Where the figure begins.
 const FIGURE: u64 = 4294967296;
@@ -21,7 +22,7 @@ const FIGURE: u64 = 4294967296;
 pub fn pair(station: u8, figure: i32) -> u64
     ensures { lent_pair result ≡ pair_of station figure }
 {
-    station as u64 + bits_of(figure) as u64 * FIGURE
+    u64::from(station) + u64::from(bits_of(figure)) * FIGURE
 }
 
 fn station_of(pair: u64) -> u8
@@ -36,19 +37,17 @@ fn figure_of(pair: u64) -> i32
     signed((pair / FIGURE) as u32)
 }
 
-// What a sound board refuses the pairs with, 0 for pairs that it takes.
-pub fn pairs_refusal(board: &[u8], pairs: &[u64]) -> u8
+// What a sound board refuses the pairs with.
+pub fn pairs_refusal(board: &[u8], pairs: &[u64]) -> Result<(), Refusal>
     requires { board_refusal board.now none ≡ none }
-    ensures { numbered result ≡ pairs_refusal (lent_pairs pairs.now) board.now }
+    ensures { verdict result ≡ pairs_refusal (lent_pairs pairs.now) board.now }
 {
-    let mut flags: [bool; 256] = [false; 256];
-    let mut number: u8 = 0;
-    let mut i = 0;
-    while i < pairs.len() {
-        number = try_pair(board, &mut flags, station_of(pairs[i]), number);
-        i += 1;
+    let mut flags = [false; 256];
+    let mut so_far = Ok(());
+    for &pair in pairs {
+        so_far = try_pair(board, &mut flags, station_of(pair), so_far);
     }
-    number
+    so_far
 }
 
 // Each pair put in, on a board that takes every one of them.
@@ -56,10 +55,7 @@ pub fn put_pairs(board: &mut [u8], pairs: &[u64])
     requires { AllAccepted (lent_pairs pairs.now) board.old }
     ensures { board.new ≡ one_by_one (lent_pairs pairs.now) board.old }
 {
-    let mut i = 0;
-    while i < pairs.len() {
-        let pair = pairs[i];
+    for &pair in pairs {
         put_in(board, station_of(pair), figure_of(pair));
-        i += 1;
     }
 }

@@ -8,7 +8,8 @@ pub fn name_station(flags: &mut [bool; 256], station: u8) -> bool
     requires { length flags.old ≡ 256 }
     ensures { Names flags.old station flags.new result }
 {
-    let before = flags[station as usize];
-    flags[station as usize] = true;
+    let index = usize::from(station);
+    let before = flags[index];
+    flags[index] = true;
     before
 }

@@ -2,61 +2,54 @@
 // Relies on the test of a board, the place of a station and the codec; it is a public call.
 ghost use Rattle.std.specs.Prelude.{◌≡◌};
 ghost use Rattle.std.proofs.Math.Option.{none};
+ghost use Rattle.model.specs.declared.Record.{Record};
 ghost use Rattle.model.specs.Listing.{proposed};
 ghost use Rattle.model.specs.Layout.{record_fields, with_counts};
 ghost use Rattle.model.specs.Calls.{board_refusal, proposal_refusal, propose};
 ghost use Rattle.model.specs.Told.{verdict};
-ghost use Rattle.soundness.specs.Shaped.{numbered};
 ghost use Rattle.proposing.specs.Answers.{Proposes};
 
 use codec::places::record_offset;
-use codec::records::{put_record, record_at};
+use codec::records::put_record;
+use model::Record;
 use model::phase::{IDLE, WRITE_M};
-use model::{Record, Verdict};
+use model::refusal::Refusal;
 use soundness::board::check_board;
-use soundness::place::{NO_STATION, Place, station_place};
+use soundness::place::station_place;
 
-// The refusal of every proposal on a board of two stations, which may be stepped to its end but takes no figure.
-const TWO_STATIONS: u8 = 22;
-
-// The refusal of a station that has proposed.
-const NOT_IDLE: u8 = 13;
-
-// "phase 1, c = 0, proposal and carried = the figure", no step taken since and nothing met. Each field is set, so that nothing
-// need be known of the record that stood there.
-fn beginning(station: Record, figure: i32) -> Record
-    ensures { result ≡ record_fields (proposed figure) (with_counts 0 0 station) }
+// "phase 1, c = 0, proposal and carried = the figure", no step taken since and nothing met, whatever record stood there.
+fn beginning(figure: i32) -> Record
+    ensures { (station : Record) → result ≡ record_fields (proposed figure) (with_counts 0 0 station) }
 {
-    let mut next = station;
-    next.phase = WRITE_M;
-    next.position = 0;
-    next.island = 0;
-    next.seen = 0;
-    next.highest = 0;
-    next.flag = 0;
-    next.proposal = figure;
-    next.carried = figure;
-    next.best = 0;
-    next.steps = 0;
-    next.met = 0;
-    next
+    Record {
+        phase: WRITE_M,
+        position: 0,
+        island: 0,
+        seen: 0,
+        highest: 0,
+        flag: 0,
+        proposal: figure,
+        carried: figure,
+        best: 0,
+        steps: 0,
+        met: 0,
+    }
 }
 
-// What a sound board refuses a station's proposal with, 12, 22 or 13; 0 for a proposal that it takes.
-pub fn refusal_of(board: &[u8], station: u8) -> u8
+// What a sound board refuses a station's proposal with: 12, 22 or 13. A board of two stations may be stepped to its end, but takes
+// no figure.
+pub fn refusal_of(board: &[u8], station: u8) -> Result<(), Refusal>
     requires { board_refusal board.now none ≡ none }
-    ensures { numbered result ≡ proposal_refusal station board.now }
+    ensures { verdict result ≡ proposal_refusal station board.now }
 {
-    let Place::At { index: _, at } = station_place(board, station) else {
-        return NO_STATION;
-    };
+    let place = station_place(board, station)?;
     if board[0] == 2 {
-        return TWO_STATIONS;
+        return Err(Refusal::TwoStations);
     }
-    if board[at] != IDLE {
-        return NOT_IDLE;
+    if board[place.at] != IDLE {
+        return Err(Refusal::NotIdle);
     }
-    0
+    Ok(())
 }
 
 // A proposal that a sound board takes.
@@ -64,32 +57,25 @@ pub fn put_in(board: &mut [u8], station: u8, figure: i32)
     requires { (board_refusal board.old none ≡ none) × (proposal_refusal station board.old ≡ none) }
     ensures { board.new ≡ (propose station figure board.old).bytes }
 {
-    let n = board[0] as usize;
-    let k = board[1] as usize;
-    let at = record_offset(n, k, station as usize - 1);
-    let own = record_at(board, at);
-    put_record(board, at, beginning(own, figure));
+    let n = usize::from(board[0]);
+    let k = usize::from(board[1]);
+    let at = record_offset(n, k, usize::from(station) - 1);
+    put_record(board, at, beginning(figure));
 }
 
 // A proposal on a board that is known to be sound.
-fn propose_on(board: &mut [u8], station: u8, figure: i32) -> Verdict
+fn propose_on(board: &mut [u8], station: u8, figure: i32) -> Result<(), Refusal>
     requires { board_refusal board.old none ≡ none }
     ensures { Proposes station figure board.old result board.new }
 {
-    let number = refusal_of(board, station);
-    if number != 0 {
-        return Verdict::Refused { number };
-    }
+    refusal_of(board, station)?;
     put_in(board, station, figure);
-    Verdict::Accepted
+    Ok(())
 }
 
-pub fn propose(board: &mut [u8], station: u8, figure: i32) -> Verdict
+pub fn propose(board: &mut [u8], station: u8, figure: i32) -> Result<(), Refusal>
     ensures { (verdict result ≡ (propose station figure board.old).answer) × (board.new ≡ (propose station figure board.old).bytes) }
 {
-    let checked = check_board(board);
-    match checked {
-        Verdict::Refused { number } => Verdict::Refused { number },
-        Verdict::Accepted => propose_on(board, station, figure),
-    }
+    check_board(board)?;
+    propose_on(board, station, figure)
 }

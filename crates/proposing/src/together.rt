@@ -8,29 +8,23 @@ ghost use Rattle.model.specs.Told.{verdict};
 ghost use Rattle.proposing.specs.Answers.{ProposesAll};
 
 use crate::lent::{pairs_refusal, put_pairs};
-use model::Verdict;
+use model::refusal::Refusal;
 use soundness::board::check_board;
 
 // The same on a board that is known to be sound. Nothing is put in before the last pair has passed.
-fn propose_pairs(board: &mut [u8], pairs: &[u64]) -> Verdict
+fn propose_pairs(board: &mut [u8], pairs: &[u64]) -> Result<(), Refusal>
     requires { board_refusal board.old none ≡ none }
     ensures { ProposesAll (lent_pairs pairs.now) board.old result board.new }
 {
-    let number = pairs_refusal(board, pairs);
-    if number != 0 {
-        return Verdict::Refused { number };
-    }
+    pairs_refusal(board, pairs)?;
     put_pairs(board, pairs);
-    Verdict::Accepted
+    Ok(())
 }
 
 // All pairs or none; no pair at all is taken, as none.
-pub fn propose_all(board: &mut [u8], pairs: &[u64]) -> Verdict
+pub fn propose_all(board: &mut [u8], pairs: &[u64]) -> Result<(), Refusal>
     ensures { (verdict result ≡ (propose_all (lent_pairs pairs.now) board.old).answer) × (board.new ≡ (propose_all (lent_pairs pairs.now) board.old).bytes) }
 {
-    let checked = check_board(board);
-    match checked {
-        Verdict::Refused { number } => Verdict::Refused { number },
-        Verdict::Accepted => propose_pairs(board, pairs),
-    }
+    check_board(board)?;
+    propose_pairs(board, pairs)
 }

@@ -7,22 +7,22 @@ ghost use Rattle.proposing.specs.Tried.{TriesNext};
 
 use crate::naming::name_station;
 use crate::single::refusal_of;
+use model::refusal::Refusal;
 
-// The refusal of pairs that name a station twice.
-const NAMED_TWICE: u8 = 20;
-
-// The pairs so far are refused with `number`, 0 for none of them, and this one comes behind them. A station that is named again
-// turns all pairs down, whatever fault stood before it.
-pub fn try_pair(board: &[u8], flags: &mut [bool; 256], station: u8, number: u8) -> u8
+// The pairs so far are refused as `so_far` says, and this one comes behind them. A station that is named again turns all pairs
+// down, whatever fault stood before it.
+pub fn try_pair(
+    board: &[u8],
+    flags: &mut [bool; 256],
+    station: u8,
+    so_far: Result<(), Refusal>,
+) -> Result<(), Refusal>
     requires { (board_refusal board.now none ≡ none) × (length flags.old ≡ 256) }
-    ensures { TriesNext board.now flags.old station number flags.new result }
+    ensures { TriesNext board.now flags.old station so_far flags.new result }
 {
-    let twice = name_station(flags, station);
-    if twice {
-        return NAMED_TWICE;
+    if name_station(flags, station) {
+        return Err(Refusal::NamedTwice);
     }
-    if number != 0 {
-        return number;
-    }
+    so_far?;
     refusal_of(board, station)
 }

@@ -13,9 +13,6 @@ pub flags_none : Flagged (replicate 256 false) []
 unfolding names
 flags_none = record { size = refl; holds = λ i h. get_or-replicate 256 i false false (omega arith) }
 
-pub flags_size : (flags : List Bool) (is : List ℕ) → Flagged flags is → length flags ≡ 256
-flags_size flags is f = f.size
-
 module _ (flags : List Bool) (j : ℕ) (size : length flags ≡ 256) (byte : Fits w8 j) where
   entry : (i : ℕ) → get_or (set flags j true) i false ≡ get_or flags i false || eqb i j
   entry i =

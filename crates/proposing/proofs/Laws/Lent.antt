@@ -4,14 +4,17 @@ use Rattle.model.proofs.Kit.{◌≡◌, refl, sym, ap, subst, ◌∙◌, Bool, f
 use Rattle.model.proofs.Kit.{◌<◌, ◌%◌, ◌/◌, length, take, drop, replicate, get_or, take_all, drop_of_length-le, add-one}
 use Rattle.model.proofs.Kit.{map, w8, Fits, w32, to_z, of_z, to_z-of_z, SFits, arith}
 use lib.Seq.{take-suc, drop-cons}
+use Rattle.std.specs.Prelude.{Ok}
+use Rattle.std.specs.declared.result.Result.{Result}
+use Rattle.model.specs.declared.refusal.Refusal.{Refusal}
 use Rattle.model.specs.Figure.{Figure}
 use Rattle.model.specs.Calls.{board_refusal, proposal_refusal, propose}
 use Rattle.model.specs.Proposals.{Proposal, lent_pair, lent_pairs, pairs_refusal, one_by_one}
 use Rattle.model.specs.AnyOrder.{AllAccepted}
+use Rattle.model.specs.Told.{verdict}
 use Rattle.model.proofs.Basics.Numbers.{signed_fits}
 use Rattle.model.proofs.Calls.Refusals.{board_passes}
 use Rattle.model.proofs.Calls.Proposals.{accepted_of}
-use Rattle.soundness.specs.Shaped.{numbered}
 use Rattle.proposing.specs.Tried.{Tried, TriesNext}
 use Rattle.proposing.specs.Lent.{pair_of}
 use Rattle.proposing.proofs.Laws.Trying.{tried_none}
@@ -45,29 +48,29 @@ tried_more xs i h = rw (add-one, take-suc xs i 0 h) (map-append (take i xs))
 
 module _ (b xs : List ℕ) where
   -- the first i pairs were tried
-  pub TriedTo : (i : ℕ) (flags : List Bool) (number : ℕ) → Type 0
-  TriedTo i flags number = Tried b (lent_pairs (take i xs)) flags number
+  pub TriedTo : (i : ℕ) (flags : List Bool) (so_far : Result (Unit {0}) Refusal) → Type 0
+  TriedTo i flags so_far = Tried b (lent_pairs (take i xs)) flags so_far
 
-  pub tried_begun : TriedTo 0 (replicate 256 false) 0
+  pub tried_begun : TriedTo 0 (replicate 256 false) (Ok tt)
   unfolding TriedTo lent_pairs
   tried_begun = tried_none b
 
-  pub tried_size : (i : ℕ) (flags : List Bool) (number : ℕ) → TriedTo i flags number → length flags ≡ 256
+  pub tried_size : (i : ℕ) (flags : List Bool) (so_far : Result (Unit {0}) Refusal) → TriedTo i flags so_far → length flags ≡ 256
   unfolding TriedTo
-  tried_size i flags number t = t.stations.size
+  tried_size i flags so_far t = t.stations.size
 
-  pub tried_next : (i : ℕ) → i < length xs → (flags after : List Bool) (number station r : ℕ) → TriedTo i flags number
-      → station ≡ get_or xs i 0 % 256 → TriesNext b flags station number after r → TriedTo (i + 1) after r
+  pub tried_next : (i : ℕ) → i < length xs → (flags after : List Bool) (station : ℕ) (so_far r : Result (Unit {0}) Refusal) → TriedTo i flags so_far
+      → station ≡ get_or xs i 0 % 256 → TriesNext b flags station so_far after r → TriedTo (i + 1) after r
   unfolding TriedTo TriesNext lent_pair
-  tried_next i h flags after number station r t e n =
+  tried_next i h flags after station so_far r t e n =
       subst (λ (ps : List Proposal). Tried b ps after r) (sym (tried_more xs i h))
       (subst (λ (j : ℕ). Tried b (lent_pairs (take i xs) ++ (pair_of j (lent_pair (get_or xs i 0)).figure ∷ [])) after r) e
       (n _ (lent_pair (get_or xs i 0)).figure t))
 
-  pub tried_all : (i : ℕ) (flags : List Bool) (number : ℕ) → length xs ≤ i → TriedTo i flags number
-      → numbered number ≡ pairs_refusal (lent_pairs xs) b
+  pub tried_all : (i : ℕ) (flags : List Bool) (so_far : Result (Unit {0}) Refusal) → length xs ≤ i → TriedTo i flags so_far
+      → verdict so_far ≡ pairs_refusal (lent_pairs xs) b
   unfolding TriedTo
-  tried_all i flags number h t = t.refused ∙ ap (λ (l : List ℕ). pairs_refusal (lent_pairs l) b) (take_all i xs h)
+  tried_all i flags so_far h t = t.refused ∙ ap (λ (l : List ℕ). pairs_refusal (lent_pairs l) b) (take_all i xs h)
 
 -- ---- the loop that puts them in
 

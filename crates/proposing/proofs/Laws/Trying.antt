@@ -2,15 +2,18 @@
 -- Relies on the set of named stations and on the model's refusals of pairs; the loops over pairs rely on it.
 use Rattle.model.proofs.Kit.{◌≡◌, refl, sym, ap, subst, ◌∙◌, Bool, true, false, ◌&&◌, not, List, [], ◌∷◌, ◌++◌, none}
 use Rattle.model.proofs.Kit.{some, ℕ, replicate}
+use Rattle.std.specs.Prelude.{Ok, Err}
+use Rattle.std.specs.declared.result.Result.{Result}
+use Rattle.model.specs.declared.refusal.Refusal as refusals
+use Rattle.model.specs.declared.refusal.Refusal.TheVariants.{NamedTwice}
 use Rattle.model.specs.Bytes.{names}
 use Rattle.model.specs.Figure.{Figure}
 use Rattle.model.specs.Calls.{Refusal, unless, proposal_refusal}
 use Rattle.model.specs.Proposals.{Proposal, named, each_once, or_later, first_fault, pairs_refusal}
+use Rattle.model.specs.Told.{verdict, number}
 use Rattle.model.proofs.Basics.Names.{once_more}
 use Rattle.model.proofs.Basics.Tests.{and_false}
 use Rattle.model.proofs.Calls.Refusals.{unless_fails}
-use Rattle.soundness.specs.Shaped.{numbered}
-use Rattle.soundness.proofs.Laws.Verdicts.{refused_by}
 use Rattle.proposing.specs.Flags.{Flagged, Names}
 use Rattle.proposing.specs.Tried.{Tried, TriesNext}
 use Rattle.proposing.specs.Lent.{pair_of}
@@ -51,14 +54,14 @@ unfolding unless
 unless_later true a later = refl
 unless_later false a later = refl
 
-pub tried_none : (b : List ℕ) → Tried b [] (replicate 256 false) 0
-unfolding named numbered pairs_refusal each_once first_fault unless
+pub tried_none : (b : List ℕ) → Tried b [] (replicate 256 false) (Ok tt)
+unfolding named verdict pairs_refusal each_once first_fault unless
 tried_none b = record { stations = flags_none; refused = refl }
 
-module _ (b : List ℕ) (flags : List Bool) (i number : ℕ) (after : List Bool) (twice : Bool)
-    (names_it : Names flags i after twice) where
-  next : (r : ℕ) (ps : List Proposal) (v : Figure) → Tried b ps flags number
-      → (twice ≡ names i (named ps) → numbered r ≡ pairs_refusal (ps ++ (pair_of i v ∷ [])) b)
+module _ (b : List ℕ) (flags : List Bool) (i : ℕ) (so_far : Result (Unit {0}) refusals.Refusal) (after : List Bool)
+    (twice : Bool) (names_it : Names flags i after twice) where
+  next : (r : Result (Unit {0}) refusals.Refusal) (ps : List Proposal) (v : Figure) → Tried b ps flags so_far
+      → (twice ≡ names i (named ps) → verdict r ≡ pairs_refusal (ps ++ (pair_of i v ∷ [])) b)
       → Tried b (ps ++ (pair_of i v ∷ [])) after r
   unfolding Names
   next r ps v t f =
@@ -68,10 +71,10 @@ module _ (b : List ℕ) (flags : List Bool) (i number : ℕ) (after : List Bool)
         refused = f n.1;
       }
 
-  pub twenty : twice ≡ true → TriesNext b flags i number after 20
-  unfolding TriesNext numbered
+  pub twenty : twice ≡ true → TriesNext b flags i so_far after (Err NamedTwice)
+  unfolding TriesNext verdict
   twenty e ps v t =
-      next 20 ps v t (λ n. sym (refusal_more ps (pair_of i v) b
+      next (Err NamedTwice) ps v t (λ n. sym (refusal_more ps (pair_of i v) b
       ∙ unless_fails _ 20 _
       (ap (λ (x : Bool). each_once (named ps) && not x) (sym n ∙ e) ∙ and_false (each_once (named ps)))))
 
@@ -89,15 +92,15 @@ module _ (b : List ℕ) (flags : List Bool) (i number : ℕ) (after : List Bool)
         and_true true = refl
         and_true false = refl
 
-    pub fault_stays : (number ≡ 0 → ⊥) → TriesNext b flags i number after number
-    unfolding TriesNext
-    fault_stays ne ps v t =
-        next number ps v t (λ n. refused_by number ne
-        ∙ ap (λ (r : Refusal). or_later r (proposal_refusal i b)) (sym (refused_by number ne) ∙ t.refused)
-        ∙ sym (only_new ps v n))
+    pub fault_stays : (k : refusals.Refusal) → so_far ≡ Err k → TriesNext b flags i so_far after (Err k)
+    unfolding TriesNext verdict
+    fault_stays k e ps v t =
+        let known : some (number k) ≡ pairs_refusal ps b = sym (ap verdict e) ∙ t.refused in
+        next (Err k) ps v t (λ n. ap (λ (r : Refusal). or_later r (proposal_refusal i b)) known ∙ sym (only_new ps v n))
 
-    pub fault_tried : number ≡ 0 → (r : ℕ) → numbered r ≡ proposal_refusal i b → TriesNext b flags i number after r
-    unfolding TriesNext numbered
-    fault_tried z r e ps v t =
-        next r ps v t (λ n. e ∙ ap (λ (q : Refusal). or_later q (proposal_refusal i b)) (ap numbered (sym z) ∙ t.refused)
+    pub fault_tried : (x : Unit {0}) → so_far ≡ Ok x → (r : Result (Unit {0}) refusals.Refusal)
+        → verdict r ≡ proposal_refusal i b → TriesNext b flags i so_far after r
+    unfolding TriesNext verdict
+    fault_tried x z r e ps v t =
+        next r ps v t (λ n. e ∙ ap (λ (q : Refusal). or_later q (proposal_refusal i b)) (sym (ap verdict z) ∙ t.refused)
         ∙ sym (only_new ps v n))

@@ -3,4 +3,4 @@ use Rattle.proposing.proofs.Laws.Lent.{pair_made}
 use Rattle.proposing.proofs.lent.pair.Goals as goal
 
 pub returns : goal.returns
-returns c = search pair_made
+returns c = rw (c.from.ensures, c.from-2.ensures) (pair_made _ _ (search) (search) _ c.bits_of.ensures)

@@ -3,4 +3,4 @@ use Rattle.proposing.proofs.Laws.Flags.{names_it}
 use Rattle.proposing.proofs.naming.name_station.Goals as goal
 
 pub returns : goal.returns
-returns c = search names_it
+returns c = rw c.from-index.ensures (search names_it)

@@ -8,4 +8,4 @@ use Rattle.proposing.proofs.single.beginning.Goals as goal
 
 pub returns : goal.returns
 unfolding record_fields fields changed proposed write_phase flag_byte seen_number best_island best_figure
-returns c = ap (λ (v : Figure). record_fields (proposed v) (with_counts 0 0 c.args.station)) (to_z-of_z c.ranges.figure)
+returns c = λ station. ap (λ (v : Figure). record_fields (proposed v) (with_counts 0 0 station)) (to_z-of_z c.ranges.figure)

@@ -7,26 +7,17 @@ use Rattle.proposing.proofs.single.put_in.Goals as goal
 pub bounds-board-0 : goal.bounds-board-0
 bounds-board-0 c = omega (arith, head_long)
 
-pub overflow_cast-n : goal.overflow_cast-n
-overflow_cast-n c = record { fits = omega (arith, n_high) }
-
 pub bounds-board-1 : goal.bounds-board-1
 bounds-board-1 c = omega (arith, head_long)
 
-pub overflow_cast-k : goal.overflow_cast-k
-overflow_cast-k c = record { fits = omega (arith, k_high) }
-
-pub overflow_sub-station : goal.overflow_sub-station
-overflow_sub-station c = search index_from
+pub overflow_sub-from : goal.overflow_sub-from
+overflow_sub-from c = let low = index_from _ _ c.requires.0 c.requires.1 in omega arith
 
 pub record_offset-at-requires : goal.record_offset-at-requires
-record_offset-at-requires c = search (n_high, k_high, own_inside)
-
-pub record_at-own-requires : goal.record_at-own-requires
-record_at-own-requires c = search record_there
+record_offset-at-requires c = (omega (arith, n_high), omega (arith, k_high), let own = own_inside _ _ c.requires.0 c.requires.1 in omega arith)
 
 pub put_record-requires : goal.put_record-requires
-put_record-requires c = search record_there
+put_record-requires c = record_there _ _ c.requires.0 c.requires.1 _ _ _ _ c.from-n.ensures c.from-k.ensures (omega arith) c.record_offset-at.ensures
 
 pub returns : goal.returns
-returns c = search put_in
+returns c = put_in _ _ c.requires.0 c.requires.1 _ _ _ _ c.from-n.ensures c.from-k.ensures (omega arith) c.record_offset-at.ensures _ (search) _ c.beginning.ensures _ c.put_record.ensures
