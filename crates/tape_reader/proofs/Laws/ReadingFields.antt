@@ -5,14 +5,14 @@ use Rattle.model.proofs.Kit.{le-leb, lt-leb, leb-false, eqb, leb, ℤ, length, d
 use Rattle.model.proofs.Basics.Tests.{and_false}
 use Rattle.model.specs.Bytes.{byte}
 use Rattle.model.specs.Show.{text}
-use Rattle.model.specs.Forms.{Read, found, and_then, spaced, natural, number_in, same, closing}
+use Rattle.model.specs.Forms.{Read, found, and_then, spaced, natural, number_in, figure_in, same, closing}
 use Rattle.model.specs.Tape.{end_in, read_in}
-use Rattle.lexer.specs.declared.number.FoundNumber.{FoundNumber}
-use Rattle.lexer.specs.declared.number.FoundNumber.TheVariants as numbers
-use Rattle.lexer.specs.declared.number.FoundFigure.{FoundFigure}
-use Rattle.lexer.specs.declared.number.FoundFigure.TheVariants as signed
+use Rattle.std.specs.Prelude.{Ok, Err}
+use Rattle.std.specs.declared.result.Result.{Result}
+use Rattle.model.specs.declared.refusal.Refusal.{Refusal}
+use Rattle.lexer.specs.declared.At.{At}
 use Rattle.lexer.specs.Placed.{SpacedIs, FigureIs}
-use Rattle.lexer.proofs.Laws.Spaced.{number_missed, number_found, number_inside, figure_missed, figure_found}
+use Rattle.lexer.proofs.Laws.Answers.{missed, there, number_inside}
 use Rattle.tape_reader.specs.Reading.{given, EndsIs}
 
 -- ---- a number in a narrower range
@@ -21,10 +21,6 @@ module _ (low high : ℕ) where
   -- a number that was read, if it lies in the range
   unfoldable within : ℕ → List ℕ → Option (Read ℕ)
   within v rest = cond (leb low v && leb v high) (found v rest) none
-
-  below_none : (v : ℕ) (rest : List ℕ) → v < low → within v rest ≡ none
-  unfolding within
-  below_none v rest h = rw (lt-leb low v h)
 
   above_none : (v : ℕ) (rest : List ℕ) → high < v → within v rest ≡ none
   unfolding within
@@ -54,103 +50,110 @@ module _ (low high : ℕ) where
         go true = narrowed (drop 1 l)
         go false = refl
 
-    module _ (line : List ℕ) (at : ℕ) (first : FoundNumber) (is : SpacedIs line at first) where
-      pub in_range_missed : (k : ℕ) → first ≡ numbers.Refused k → spaced (number_in low high) (drop at line) ≡ none
+    module _ (line : List ℕ) (at : ℕ) (first : Result (At ℕ) Refusal) (is : SpacedIs line at first) where
+      pub in_range_missed : (k : Refusal) → first ≡ Err k → spaced (number_in low high) (drop at line) ≡ none
       unfolding and_then
-      in_range_missed k e = rw (spaced_narrowed (drop at line), number_missed line first _ is.reads k e)
+      in_range_missed k e = rw (spaced_narrowed (drop at line), missed (λ v. v) line first _ is.reads k e)
 
-      module _ (v next : ℕ) (e : first ≡ numbers.At v next) where
-        taken : spaced (number_in low high) (drop at line) ≡ within v (drop next line)
-        unfolding and_then found
-        taken = rw (spaced_narrowed (drop at line), number_found line first _ is.reads v next e)
+      pub in_range : (a : At ℕ) → first ≡ Ok a → spaced (number_in low high) (drop at line)
+          ≡ cond (leb low a.value && leb a.value high) (found a.value (drop a.next line)) none
+      unfolding and_then found within
+      in_range a e =
+          rw (
+            spaced_narrowed (drop at line),
+            there (λ v. v) line first (spaced (number_in 0 99) (drop at line)) is.reads a e,
+          )
 
-        pub in_range_below : v < low → spaced (number_in low high) (drop at line) ≡ none
-        in_range_below h = taken ∙ below_none v _ h
+-- ---- the closing bracket, and what follows such a number
 
-        pub in_range_above : high < v → spaced (number_in low high) (drop at line) ≡ none
-        in_range_above h = taken ∙ above_none v _ h
-
-        pub in_range_found : low ≤ v → v ≤ high → spaced (number_in low high) (drop at line) ≡ found v (drop next line)
-        unfolding within
-        in_range_found h l = taken ∙ rw (le-leb low v h, le-leb v high l)
-
--- ---- the closing bracket
-
-pub closes_given : {A : Type 0} (a : A) (l : List ℕ) (t : Bool) → t ≡ same l (text ")") → t ≡ given (closing a l)
+pub closes_given : {A : Type 0} (a : A) (l : List ℕ) → same l (text ")") ≡ given (closing a l)
 unfolding closing given
-closes_given a l t e = e ∙ go (same l (text ")"))
+closes_given a l = go (same l (text ")"))
   where
     go : (s : Bool) → s ≡ given (cond s (some a) none)
     go true = refl
     go false = refl
 
+module _ {A : Type 0} (v : ℕ) (l : List ℕ) (more : ℕ → List ℕ → Option A) where
+  broken : (t : Bool) → more v l ≡ none → false ≡ given (and_then (cond t (found v l) none) more)
+  unfolding and_then found given
+  broken true e = rw e
+  broken false e = refl
+
+  closed : (a : A) (rest : List ℕ) → more v l ≡ closing a rest → (t : Bool)
+      → t && same rest (text ")") ≡ given (and_then (cond t (found v l) none) more)
+  unfolding and_then found given
+  closed a rest e true = rw e (closes_given a rest)
+  closed a rest e false = refl
+
 -- ---- the field of `read`
 
-module _ (line : List ℕ) (at : ℕ) (first : FoundNumber) (is : SpacedIs line at first) where
-  read_none : spaced (number_in 0 1) (drop at line) ≡ none → false ≡ given (read_in (drop at line))
+module _ (line : List ℕ) (at : ℕ) (first : Result (At ℕ) Refusal) (is : SpacedIs line at first) where
+  pub read_missed : (k : Refusal) → first ≡ Err k → false ≡ given (read_in (drop at line))
   unfolding read_in and_then given
-  read_none e = rw e
+  read_missed k e = rw (in_range_missed 0 1 (omega arith) line at first is k e)
 
-  pub read_missed : (k : ℕ) → first ≡ numbers.Refused k → false ≡ given (read_in (drop at line))
-  read_missed k e = read_none (in_range_missed 0 1 (omega arith) line at first is k e)
+  module _ (a : At ℕ) (e : first ≡ Ok a) where
+    pub number_within : a.next ≤ length line
+    number_within = (number_inside line at 0 99 first is.inside a e).1
 
-  module _ (v next : ℕ) (e : first ≡ numbers.At v next) where
-    pub read_above : 1 < v → false ≡ given (read_in (drop at line))
-    read_above h = read_none (in_range_above 0 1 (omega arith) line at first is v next e h)
+    read_given : leb a.value 1 && same (drop a.next line) (text ")") ≡ given (read_in (drop at line))
+    unfolding read_in
+    read_given =
+        rw (in_range 0 1 (omega arith) line at first is a e, le-leb 0 a.value (omega arith))
+        (closed _ _ _ _ _ refl (leb a.value 1))
 
-    pub number_within : next ≤ length line
-    number_within = (number_inside line at 0 99 first is.inside v next e).1
+    pub read_closes : a.value ≤ 1 → (t : Bool) → t ≡ same (drop a.next line) (text ")") → t ≡ given (read_in (drop at line))
+    read_closes h t q = q ∙ rw (le-leb a.value 1 h) at read_given
 
-    pub read_closes : v ≤ 1 → (t : Bool) → t ≡ same (drop next line) (text ")") → t ≡ given (read_in (drop at line))
-    unfolding read_in and_then found
-    read_closes h t q =
-        rw (in_range_found 0 1 (omega arith) line at first is v next e (omega arith) h) (closes_given _ _ t q)
+    pub read_above : 1 < a.value → leb a.value 1 ≡ given (read_in (drop at line))
+    read_above h = lt-leb a.value 1 h ∙ rw (lt-leb a.value 1 h) at read_given
 
 -- ---- the fields of an answer that ends a collect
 
-module _ (line : List ℕ) (at low high : ℕ) (small : high ≤ 99) (first : FoundNumber) (is : SpacedIs line at first) where
-  ends_none : spaced (number_in low high) (drop at line) ≡ none → EndsIs line at low high false
-  unfolding end_in and_then given
-  ends_none e = record { ends = λ answer. rw e }
+module _ (line : List ℕ) (at low high : ℕ) (small : high ≤ 99) (first : Result (At ℕ) Refusal) (is : SpacedIs line at first)
+  where
+    pub ends_missed : (k : Refusal) → first ≡ Err k → EndsIs line at low high false
+    unfolding end_in and_then given
+    ends_missed k e = record { ends = λ answer. rw (in_range_missed low high small line at first is k e) }
 
-  pub ends_missed : (k : ℕ) → first ≡ numbers.Refused k → EndsIs line at low high false
-  ends_missed k e = ends_none (in_range_missed low high small line at first is k e)
+    module _ (a : At ℕ) (e : first ≡ Ok a) (second : Result (At ℤ) Refusal) (figure : FigureIs line a.next second) where
+      pub ends_no_figure : (k : Refusal) → second ≡ Err k → EndsIs line at low high false
+      unfolding end_in and_then
+      ends_no_figure k q = record {
+        ends = λ answer. rw (in_range low high small line at first is a e)
+            (broken a.value (drop a.next line) _ (leb low a.value && leb a.value high)
+            (rw (missed (λ v. v) line second _ figure.reads k q)));
+      }
 
-  module _ (v next : ℕ) (e : first ≡ numbers.At v next) where
-    pub ends_below : v < low → EndsIs line at low high false
-    ends_below h = ends_none (in_range_below low high small line at first is v next e h)
-
-    pub ends_above : high < v → EndsIs line at low high false
-    ends_above h = ends_none (in_range_above low high small line at first is v next e h)
-
-    module _ (large : low ≤ v) (fits : v ≤ high) (second : FoundFigure) (figure : FigureIs line next second) where
-      begun : spaced (number_in low high) (drop at line) ≡ found v (drop next line)
-      begun = in_range_found low high small line at first is v next e large fits
-
-      pub ends_no_figure : (k : ℕ) → second ≡ signed.Refused k → EndsIs line at low high false
-      unfolding end_in and_then found given
-      ends_no_figure k q =
-          record { ends = λ answer. rw (begun, figure_missed line second _ figure.reads k q) }
-
-      module _ (x : ℤ) (after : ℕ) (q : second ≡ signed.At x after) (third : FoundNumber)
-          (total : SpacedIs line after third) where
-        pub ends_no_total : (k : ℕ) → third ≡ numbers.Refused k → EndsIs line at low high false
-        unfolding end_in and_then found given
-        ends_no_total k p = record {
-          ends = λ answer. rw (
-            begun,
-            figure_found line second _ figure.reads x after q,
-            number_missed line third _ total.reads k p,
-          );
-        }
-
-        pub ends_closes : (k last : ℕ) → third ≡ numbers.At k last → (t : Bool) → t ≡ same (drop last line) (text ")")
-            → EndsIs line at low high t
+      module _ (x : At ℤ) (q : second ≡ Ok x) (third : Result (At ℕ) Refusal) (total : SpacedIs line x.next third) where
+        pub ends_no_total : (k : Refusal) → third ≡ Err k → EndsIs line at low high false
         unfolding end_in and_then found
-        ends_closes k last p t c = record {
-          ends = λ answer. rw (
-            begun,
-            figure_found line second _ figure.reads x after q,
-            number_found line third _ total.reads k last p,
-          ) (closes_given _ _ t c);
+        ends_no_total k p = record {
+          ends = λ answer. rw (in_range low high small line at first is a e)
+              (broken a.value (drop a.next line) _ (leb low a.value && leb a.value high)
+              (rw (
+                there (λ v. v) line second (spaced figure_in (drop a.next line)) figure.reads x q,
+                missed (λ v. v) line third _ total.reads k p,
+              )));
         }
+
+        module _ (b : At ℕ) (p : third ≡ Ok b) where
+          ends_given : EndsIs line at low high ((leb low a.value && leb a.value high) && same (drop b.next line) (text ")"))
+          unfolding end_in and_then found
+          ends_given = record {
+            ends = λ answer. rw (in_range low high small line at first is a e)
+                (closed a.value (drop a.next line) _ (record { did = answer a.value x.value; met = b.value }) (drop b.next line)
+                (rw (
+                  there (λ v. v) line second (spaced figure_in (drop a.next line)) figure.reads x q,
+                  there (λ v. v) line third (spaced (number_in 0 99) (drop x.next line)) total.reads b p,
+                ))
+                (leb low a.value && leb a.value high));
+          }
+
+          pub ends_closes : low ≤ a.value → a.value ≤ high → (t : Bool) → t ≡ same (drop b.next line) (text ")")
+              → EndsIs line at low high t
+          ends_closes h l t c = rw c (rw (le-leb low a.value h, le-leb a.value high l) at ends_given)
+
+          pub ends_outside : (t : Bool) → t ≡ false → leb low a.value && leb a.value high ≡ false → EndsIs line at low high t
+          ends_outside t c out = rw c (rw out at ends_given)

@@ -3,19 +3,21 @@
 -- src/reading.rt rely on it.
 use Rattle.model.proofs.Kit.{◌≡◌, refl, sym, ap, subst, ◌∙◌, Bool, true, false, List, none, some, Option, ℕ, ◌+◌, ◌-◌}
 use Rattle.model.proofs.Kit.{◌≤◌, eq-eqb, ne_eqb, length, take, drop, length-drop, get_or, drop-drop, take_all, arith}
-use lib.ListN.{length-take, get_or-eq_default}
+use lib.ListN.{length-take}
 use Rattle.model.specs.Show.{text}
 use Rattle.model.specs.Figure.{Figure}
 use Rattle.model.specs.Filled.{Report}
 use Rattle.model.specs.Listing.{went, marked, adopted, decided, spent}
-use Rattle.model.specs.Forms.{found, and_then, same, WordRow, row_in, up_to_stop}
+use Rattle.model.specs.Forms.{found, and_then, same, WordRow, row_in, number_in, up_to_stop}
 use Rattle.model.specs.Tape.{read_in, kind_rows, kind_in, by_station, entry_in, is_entry}
-use Rattle.lexer.specs.declared.number.FoundNumber.{FoundNumber}
-use Rattle.lexer.specs.declared.number.FoundNumber.TheVariants as numbers
+use Rattle.std.specs.Prelude.{Ok, Err}
+use Rattle.std.specs.declared.result.Result.{Result}
+use Rattle.model.specs.declared.refusal.Refusal.{Refusal}
+use Rattle.lexer.specs.declared.At.{At}
 use Rattle.lexer.specs.Placed.{NumberIs}
 use Rattle.lexer.specs.Words.{WordEnd}
 use Rattle.lexer.proofs.Laws.Places.{first_byte, behind_first}
-use Rattle.lexer.proofs.Laws.Spaced.{number_missed, number_found}
+use Rattle.lexer.proofs.Laws.Answers.{missed, there}
 use Rattle.tape_reader.specs.Reading.{given, by_row, EndsIs}
 use Rattle.tape_reader.proofs.Laws.ReadingFields.{closes_given}
 
@@ -25,7 +27,7 @@ module _ (w line : List ℕ) (at : ℕ) (t : Bool) where
   pub kind_wrote : same w (text "wrote") ≡ true → t ≡ same (drop at line) (text ")")
       → t ≡ given (by_row (row_in kind_rows w) (drop at line))
   unfolding by_row row_in kind_rows
-  kind_wrote a h = rw a (closes_given _ _ t h)
+  kind_wrote a h = h ∙ rw a (closes_given _ _)
 
   module _ (a : same w (text "wrote") ≡ false) where
     pub kind_read : same w (text "read") ≡ true → t ≡ given (read_in (drop at line))
@@ -89,86 +91,78 @@ module _ (line : List ℕ) where
   unfolding entry_in
   entry_unopened ne = no_entry (rw (ne_eqb (get_or line 0 0) 40 ne))
 
-  pub entry_empty : length line ≡ 0 → false ≡ is_entry line
-  entry_empty h =
-      let short : length line ≤ 0 = omega arith in
-      entry_unopened (λ e. omega (arith, get_or-eq_default line 0 short))
-
-  module _ (opened : get_or line 0 0 ≡ 40) (r : FoundNumber) (is : NumberIs line 1 0 99 r) where
-    pub entry_no_station : (k : ℕ) → r ≡ numbers.Refused k → false ≡ is_entry line
+  module _ (opened : get_or line 0 0 ≡ 40) (r : Result (At ℕ) Refusal) (is : NumberIs line 1 0 99 r) where
+    pub entry_no_station : (k : Refusal) → r ≡ Err k → false ≡ is_entry line
     unfolding entry_in and_then
     entry_no_station k e =
-        no_entry (rw (eq-eqb (get_or line 0 0) 40 opened, number_missed line r _ is.reads k e))
+        no_entry (rw (eq-eqb (get_or line 0 0) 40 opened, missed (λ v. v) line r _ is.reads k e))
 
-    module _ (i next : ℕ) (e : r ≡ numbers.At i next) where
-      pub entry_unspaced : (get_or line next 0 ≡ 32 → ⊥) → false ≡ is_entry line
+    module _ (a : At ℕ) (e : r ≡ Ok a) where
+      pub entry_unspaced : (get_or line a.next 0 ≡ 32 → ⊥) → false ≡ is_entry line
       unfolding entry_in and_then found
       entry_unspaced ne =
           no_entry (rw (
             eq-eqb (get_or line 0 0) 40 opened,
-            number_found line r _ is.reads i next e,
-            first_byte line next,
-            ne_eqb (get_or line next 0) 32 ne,
+            there (λ v. v) line r (number_in 0 99 (drop 1 line)) is.reads a e,
+            first_byte line a.next,
+            ne_eqb (get_or line a.next 0) 32 ne,
           ))
 
-      pub entry_cut : length line ≤ next → false ≡ is_entry line
-      entry_cut h = entry_unspaced (λ e. omega (arith, get_or-eq_default line 0 h))
-
-      module _ (space : get_or line next 0 ≡ 32) where
+      module _ (space : get_or line a.next 0 ≡ 32) where
         -- the kind behind the station makes the entry
-        with-station : entry_in line ≡ by_station i (kind_in (drop (next + 1) line))
+        with-station : entry_in line ≡ by_station a.value (kind_in (drop (a.next + 1) line))
         unfolding entry_in and_then found by_station
         with-station =
             rw (
               eq-eqb (get_or line 0 0) 40 opened,
-              number_found line r _ is.reads i next e,
-              first_byte line next,
-              eq-eqb (get_or line next 0) 32 space,
-              behind_first line next,
+              there (λ v. v) line r (number_in 0 99 (drop 1 line)) is.reads a e,
+              first_byte line a.next,
+              eq-eqb (get_or line a.next 0) 32 space,
+              behind_first line a.next,
             )
 
-        behind_station : is_entry line ≡ given (kind_in (drop (next + 1) line))
+        behind_station : is_entry line ≡ given (kind_in (drop (a.next + 1) line))
         unfolding is_entry by_station given
-        behind_station = rw (with-station, is_entry) (go (kind_in (drop (next + 1) line)))
+        behind_station = rw (with-station, is_entry) (go (kind_in (drop (a.next + 1) line)))
           where
             go : (o : Option (Report Figure))
-                → elim (by_station i o) [ none ↦ false | some e ↦ true ] ≡ given o
+                → elim (by_station a.value o) [ none ↦ false | some e ↦ true ] ≡ given o
             go none = refl
             go (some a) = refl
 
         -- the part of the line that the end of the word was looked for in
-        module _ (lent : List ℕ) (rest : lent ≡ take (length line - next) (drop next line)) (end : ℕ)
+        module _ (lent : List ℕ) (rest : lent ≡ take (length line - a.next) (drop a.next line)) (end : ℕ)
             (ends : WordEnd lent end) where
-          word : WordEnd (drop next line) end
+          word : WordEnd (drop a.next line) end
           word =
               subst (λ (l : List ℕ). WordEnd l end)
-              (rest ∙ take_all (length line - next) (drop next line) (omega (arith, length-drop next line))) ends
+              (rest ∙ take_all (length line - a.next) (drop a.next line) (omega (arith, length-drop a.next line))) ends
 
-          begins : drop 1 (drop next line) ≡ drop (next + 1) line
-          begins = behind_first line next
+          begins : drop 1 (drop a.next line) ≡ drop (a.next + 1) line
+          begins = behind_first line a.next
 
-          word_within : next + end ≤ length line
-          word_within = omega (arith, word.inside, length-drop next line, word.behind)
+          word_within : a.next + end ≤ length line
+          word_within = omega (arith, word.inside, length-drop a.next line, word.behind)
 
-          is_word : take (end - 1) (drop (next + 1) line) ≡ up_to_stop (drop (next + 1) line)
+          is_word : take (end - 1) (drop (a.next + 1) line) ≡ up_to_stop (drop (a.next + 1) line)
           is_word = rw begins at word.word
 
-          word_length : length (up_to_stop (drop (next + 1) line)) ≡ end - 1
+          word_length : length (up_to_stop (drop (a.next + 1) line)) ≡ end - 1
           word_length =
               ap length (sym is_word) ∙ simp (length-take, length-drop) (omega (arith, word_within, word.behind))
 
-          fields_behind : drop (length (up_to_stop (drop (next + 1) line))) (drop (next + 1) line)
-              ≡ drop (next + end) line
+          fields_behind : drop (length (up_to_stop (drop (a.next + 1) line))) (drop (a.next + 1) line)
+              ≡ drop (a.next + end) line
           fields_behind =
-              let n : next + 1 + (end - 1) ≡ next + end = omega (arith, word.behind) in
-              ap (λ (k : ℕ). drop k (drop (next + 1) line)) word_length ∙ drop-drop (end - 1) (next + 1) line
+              let n : a.next + 1 + (end - 1) ≡ a.next + end = omega (arith, word.behind) in
+              ap (λ (k : ℕ). drop k (drop (a.next + 1) line)) word_length ∙ drop-drop (end - 1) (a.next + 1) line
               ∙ ap (λ (k : ℕ). drop k line) n
 
-          pub entry_kind : (part : List ℕ) → part ≡ take (next + end - (next + 1)) (drop (next + 1) line) → (t : Bool)
-              → t ≡ given (by_row (row_in kind_rows part) (drop (next + end) line)) → t ≡ is_entry line
+          pub entry_kind : (part : List ℕ) → part ≡ take (a.next + end - (a.next + 1)) (drop (a.next + 1) line) → (t : Bool)
+              → t ≡ given (by_row (row_in kind_rows part) (drop (a.next + end) line)) → t ≡ is_entry line
           entry_kind part bytes t h =
-              let n : next + end - (next + 1) ≡ end - 1 = omega (arith, word.behind) in
-              let w : part ≡ up_to_stop (drop (next + 1) line)
-              = bytes ∙ ap (λ (k : ℕ). take k (drop (next + 1) line)) n ∙ is_word in
-              h ∙ rw (w, ← fields_behind) (sym (kind_given (drop (next + 1) line)))
+              let n : a.next + end - (a.next + 1) ≡ end - 1 = omega (arith, word.behind) in
+              let w : part ≡ up_to_stop (drop (a.next + 1) line)
+              = bytes ∙ ap (λ (k : ℕ). take k (drop (a.next + 1) line)) n ∙ is_word in
+              h ∙ rw (w, ← fields_behind) (sym (kind_given (drop (a.next + 1) line)))
               ∙ sym behind_station
