@@ -1,9 +1,9 @@
 -- Items counted as they are read: what the model's reader gives at each place where the code's readers answer, by the
 -- number of steps alone.
--- Relies on the lexer's Places and the model's items; the proof of the two readers of items relies on it.
+-- Relies on the lexer's Places and Answers and the model's items; the proof of the two readers of items relies on it.
 use Rattle.model.proofs.Kit.{◌≡◌, refl, sym, ap, ◌∙◌, Bool, true, false, List, ◌++◌, none, some, Option, ℕ, zero, suc}
 use Rattle.model.proofs.Kit.{◌+◌, ◌-◌, ◌≤◌, ◌<◌, ◌*◌, leb-true, leb-false, eq-eqb, ne_eqb, leb, length, drop}
-use Rattle.model.proofs.Kit.{drop_of_length-le, get_or, length-append, w64, Fits, mul-le-mul, arith}
+use Rattle.model.proofs.Kit.{drop_of_length-le, get_or, length-append, arith}
 use Rattle.model.specs.Forms.{Item, station, times, Items, next, repeated, expand_item, expand, Read, found, and_then}
 use Rattle.model.specs.Forms.{spaced, number_in, times_in, item_in, items_in}
 use Rattle.model.proofs.Sheet.Limits.{length_repeated}
@@ -283,29 +283,7 @@ module _ (line : List ℕ) (at place total : ℕ) (along : Along line at place t
                       ∙ ap (λ (v : ℕ). more v (sized expand (items_in k (drop b.next line)))) (sym g),
                 )
 
--- ---- what the calls need to end and the counts to fit
-
-pub times_behind : (line : List ℕ) (at : ℕ) (r : Result (At ℕ) Refusal) → TimesIs line at r → (a : At ℕ) → r ≡ Ok a
-    → at < a.next
-times_behind line at r is a e = (number_inside line at 1 99999 r is.inside a e).0
-
-pub item_less : (line : List ℕ) (place : ℕ) (r : Result (At ℕ) Refusal) → place < length line
-    → ItemIs line (place + 1) r → (b : At ℕ) → r ≡ Ok b → length line - b.next < length line - place
-item_less line place r h is b e = omega (arith, (number_inside line (place + 1) 0 65537 r is.inside b e).0)
-
-pub product_fits : (line : List ℕ) (at : ℕ) (r : Result (At ℕ) Refusal) → TimesIs line at r → (a : At ℕ) → r ≡ Ok a
-    → (q : Result (At ℕ) Refusal) → ItemsAre line a.next q → (b : At ℕ) → q ≡ Ok b → Fits w64 (a.value * b.value)
-product_fits line at r is a e q items b d =
-    let outer = number_inside line at 1 99999 r is.inside a e in
-    let inside = number_inside line a.next 0 65537 q items.inside b d in
-    record { fits = omega (arith, mul-le-mul outer.3 inside.3) }
+-- ---- what the calls of those who go over items once more need to end
 
 pub falls_to : (l at inner t : ℕ) → l - at ≡ t → at < inner → at < l → l - inner < t
 falls_to l at inner t e h b = omega arith
-
-module _ (line : List ℕ) (at place total : ℕ) (along : Along line at place total) where
-  pub next_behind : at < place + 1
-  next_behind = omega (arith, along.behind)
-
-  pub at_inside : place < length line → at < length line
-  at_inside h = omega (arith, along.behind)

@@ -1,5 +1,5 @@
 -- "(times k " at a place of a line.
--- Relies on the lexer's Places, Behind and Spaced and the model's `times_in`; the proof of `times` and the run of
+-- Relies on the lexer's Places, Behind and Answers and the model's `times_in`; the proof of `times` and the run of
 -- items rely on it.
 use Rattle.model.proofs.Kit.{◌≡◌, refl, sym, ap, ◌∙◌, cond, List, none, some, Option, ℕ, ◌+◌, ◌≤◌, eq-eqb, ne_eqb, eqb}
 use Rattle.model.proofs.Kit.{length, drop, get_or, drop-drop, arith}

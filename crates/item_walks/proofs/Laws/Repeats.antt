@@ -101,9 +101,6 @@ module _ (line : List ℕ) (at : ℕ) (bracket : get_or line at 0 ≡ 40) (reads
   pub repeats_stand : NumberStands line (at + 7)
   repeats_stand = stands_there line (at + 7) 1 99999 (omega arith) times_read.0 repeats_read.0
 
-  pub repeats_place : at + 7 ≤ length line
-  repeats_place = repeats_read.1
-
   module _ (n : At ℕ) (is : KnownIs line (at + 7) n) where
     times_found : times_in (drop at line) ≡ found n.value (drop n.next line)
     times_found =

@@ -1,5 +1,5 @@
 -- A given word in front of some bytes, and at a place of a line.
--- Relies on Places, Answers and the model's `behind`; the proof of word::word_at, and the laws of items above, rely on
+-- Relies on Places, Answers, Given and the model's `behind`; the proof of word::word_at, and the laws of items above, rely on
 -- it.
 use Rattle.model.proofs.Kit.{◌≡◌, refl, sym, ap, ◌∙◌, Bool, true, false, List, [], ◌∷◌, ◌++◌, none, some, Option, ℕ, ◌+◌, ◌-◌}
 use Rattle.model.proofs.Kit.{◌≤◌, ◌<◌, eqb-true, eq-eqb, eqb, length, length-append, take, drop, drop-drop, take_all, arith}

@@ -1,5 +1,5 @@
 -- A number that is known to stand at a place: its first byte, and that its digits stay in their range without a test.
--- Relies on Given, Numbers and Spaced; the proof of src/known.rt and the run of items above rely on it.
+-- Relies on Given, Numbers and Answers; the proof of src/known.rt and the run of items above rely on it.
 use Rattle.model.proofs.Kit.{◌≡◌, refl, sym, ap, subst, ◌∙◌, true, cond, ◌&&◌, List, none, some, Option, ℕ, ◌+◌, ◌-◌}
 use Rattle.model.proofs.Kit.{◌≤◌, ◌<◌, ◌*◌, ne_eqb, leb, length, drop, drop_of_length-le, get_or, lt_of_not-le, w32, Fits}
 use Rattle.model.proofs.Kit.{arith}

@@ -1,5 +1,5 @@
 -- A figure that is known to stand behind a space: its sign, and its size as a number that is known to stand there.
--- Relies on Given, Known and Spaced; the proof of src/known.rt and the proposals of a line above rely on it.
+-- Relies on Given, Answers, Known and Spaced; the proof of src/known.rt and the proposals of a line above rely on it.
 use Rattle.model.proofs.Kit.{◌≡◌, refl, sym, ap, ◌∙◌, List, ℕ, ◌+◌, ◌-◌, ◌≤◌, ◌<◌, pos, negsuc, length, drop}
 use Rattle.model.proofs.Kit.{drop_of_length-le, get_or, lt_of_not-le, eqb, eqb-true, eqb-false, w32, to_z, SFits, arith}
 use Rattle.model.specs.Figure.{Figure}
@@ -62,9 +62,6 @@ module _ (line : List ℕ) (at : ℕ) (stands : FigureStands line at) where
 
       pub minus_some : 1 ≤ n.value
       minus_some = again_below.inside.2
-
-      pub minus_fits : SFits w32 (pos (n.value - 1))
-      minus_fits = positive_fits (n.value - 1) (omega (arith, again_below.inside.3))
 
       pub minus_known : FigureIs line at (Ok (record { value = to_z w32 (4294967295 - (n.value - 1)); next = n.next }))
       minus_known = minus_found line at space minus _ again_below n refl

@@ -1,5 +1,5 @@
 -- Digits one by one: what the loop over them keeps, and what it may answer at each place where it stops.
--- Relies on Places and the model's `digits_from` and `number`; the proofs of src/number.rt and src/known.rt rely on it.
+-- Relies on Places and the model's `digits_from` and `number_in`; the proofs of src/number.rt and src/known.rt rely on it.
 use Rattle.model.proofs.Kit.{◌≡◌, refl, sym, ap, subst, ◌∙◌, true, false, cond, ◌&&◌, List, none, ℕ, ◌+◌, ◌-◌, ◌≤◌, ◌<◌, ◌*◌}
 use Rattle.model.proofs.Kit.{le-leb, lt-leb, eq-eqb, ne_eqb, eqb, leb, length, drop, drop_of_length-le, get_or, arith}
 use Rattle.model.proofs.Basics.Tests.{clash}

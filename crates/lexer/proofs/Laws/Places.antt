@@ -1,4 +1,5 @@
--- The byte at a place of a line, as the code reads it and as the model's reader finds it in front of what follows.
+-- The byte at a place of a line, as the code reads it, by `get` too, and as the model's reader finds it in front of what
+-- follows.
 -- Relies on the kit's lists; the laws of numbers here, and those of items and forms above, rely on it.
 use Rattle.model.proofs.Kit.{◌≡◌, sym, ap, ◌∙◌, List, ◌∷◌, ℕ, ◌+◌, ◌-◌, ◌<◌, length, drop, length-drop, get_or, drop-drop}
 use Rattle.model.proofs.Kit.{add-one, ne_eqb, eqb, eqb-true, eqb-false, ltb-true, ltb-false, lt_of_not-le, Bool, true, false, not}

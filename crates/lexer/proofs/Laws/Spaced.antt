@@ -1,12 +1,12 @@
--- A number and a figure behind a single space, and what a reading that was taken apart says of the bytes.
+-- A number and a figure behind a single space.
 -- Relies on Places, Answers and the model's `spaced` and `figure_in`; the proofs of src/number.rt, and those of the
 -- readers above, rely on it.
 use Rattle.model.proofs.Kit.{◌≡◌, sym, ap, ◌∙◌, List, none, Option, ℕ, suc, ◌+◌, ◌-◌, ◌≤◌, eq-eqb, ne_eqb}
-use Rattle.model.proofs.Kit.{pos, negsuc, length, drop, drop_of_length-le, get_or, drop-drop, w8, w32, to_z, Fits}
+use Rattle.model.proofs.Kit.{pos, negsuc, length, drop, get_or, drop-drop, w32, to_z}
 use Rattle.model.proofs.Kit.{SFits, arith}
 use lib.ListN.{get_or-eq_default}
 use mir.ValLaws.{to_z_pos, to_z-neg}
-use Rattle.model.specs.Forms.{Read, found, and_then, spaced, natural, number_in, figure_in}
+use Rattle.model.specs.Forms.{Read, found, and_then, spaced, number_in, figure_in}
 use Rattle.std.specs.Prelude.{Ok, Err}
 use Rattle.std.specs.declared.result.Result.{Result}
 use Rattle.model.specs.declared.refusal.Refusal.{Refusal}
@@ -39,9 +39,6 @@ module _ (line : List ℕ) (at : ℕ) where
   unfolding placed_as or_four
   unspaced e = record { reads = ap or_four (sym e); inside = tt }
 
-  pub number_past : length line ≤ at → SpacedIs line at (Err NoForm)
-  number_past h = unspaced (no_space_left (number_in 0 99) line at h)
-
   pub number_unspaced : (get_or line at 0 ≡ 32 → ⊥) → SpacedIs line at (Err NoForm)
   number_unspaced ne = unspaced (no_space (number_in 0 99) line at ne)
 
@@ -55,10 +52,6 @@ module _ (line : List ℕ) (at : ℕ) where
         reads = is.reads ∙ ap or_four (sym (space_read (number_in 0 99) line at e));
         inside = nearer r is.inside;
       }
-
-pub byte_fits : (line : List ℕ) (at : ℕ) (r : Result (At ℕ) Refusal) → SpacedIs line at r → (a : At ℕ) → r ≡ Ok a
-    → Fits w8 a.value
-byte_fits line at r is a e = record { fits = omega (arith, (number_inside line at 0 99 r is.inside a e).3) }
 
 -- ---- a figure
 
@@ -77,17 +70,10 @@ module _ (line : List ℕ) (at : ℕ) where
   unfolding placed_as or_four
   no_figure e = record { reads = ap or_four (sym e); inside = tt }
 
-  pub figure_past : length line ≤ at → FigureIs line at (Err NoForm)
-  figure_past h = no_figure (no_space_left figure_in line at h)
-
   pub figure_unspaced : (get_or line at 0 ≡ 32 → ⊥) → FigureIs line at (Err NoForm)
   figure_unspaced ne = no_figure (no_space figure_in line at ne)
 
   module _ (space : get_or line at 0 ≡ 32) where
-    pub figure_cut : length line ≤ at + 1 → FigureIs line at (Err NoForm)
-    unfolding figure_in number_in natural and_then
-    figure_cut h = no_figure (space_read figure_in line at space ∙ rw (drop_of_length-le line h))
-
     -- behind the space, by the sign
     pub minus_read : get_or line (at + 1) 0 ≡ 45
         → spaced figure_in (drop at line) ≡ and_then (number_in 1 2147483648 (drop (at + 2) line))

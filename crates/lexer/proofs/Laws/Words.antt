@@ -1,5 +1,6 @@
--- Words: where one ends, which form it names, and that the test of two texts for equality is the model's.
--- Relies on the model's forms; the proofs of src/word.rt rely on it.
+-- Words: where one ends, which form it names, and that `==` of two texts answers as the model's test.
+-- Relies on the model's forms and its test of two texts; the proofs of src/word.rt, and the laws of a line's form above,
+-- rely on it.
 use Rattle.model.proofs.Kit.{◌≡◌, refl, sym, ap, ◌∙◌, Bool, true, false, cond, not, ◌||◌, List, [], ◌∷◌}
 use Rattle.model.proofs.Kit.{ℕ, suc, ◌+◌, ◌-◌, ◌≤◌, ◌<◌, eq-eqb, ne_eqb, eqb, length, take}
 use Rattle.model.proofs.Kit.{drop, length-drop, get_or, ltb-false, arith}

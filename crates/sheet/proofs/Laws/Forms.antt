@@ -1,6 +1,6 @@
 -- The forms by their words: what follows `board`, `propose`, `steps`, `rounds` and `show`, as the readers of numbers,
 -- figures, items, lists and brackets found it.
--- Relies on the lexer's Places and Spaced and the model's table of words; the proofs of src/form.rt rely on it.
+-- Relies on the lexer's Places and Answers and the model's table of words; the proofs of src/form.rt rely on it.
 use Rattle.model.proofs.Kit.{◌≡◌, sym, ap, ◌∙◌, Bool, true, false, cond, List, [], none, some, Option, ℕ, ◌+◌}
 use Rattle.model.proofs.Kit.{◌≤◌, ◌<◌, ℤ, length, drop, drop_of_length-le, arith}
 use Rattle.model.specs.Show.{text}
@@ -19,7 +19,7 @@ use Rattle.item_reader.specs.Counts.{capped, sized, ItemsAre}
 use Rattle.list_laws.specs.Lists.{read_as, summary, ListIs}
 use Rattle.sheet.specs.LineForms.{line_form}
 use Rattle.lexer.proofs.Laws.Places.{here}
-use Rattle.lexer.proofs.Laws.Answers.{missed, there, inside, number_inside}
+use Rattle.lexer.proofs.Laws.Answers.{missed, there}
 use Rattle.list_laws.proofs.Laws.Lists.{as_none, as_found}
 
 -- what the code answers of a form that is missing, and of one that was read
@@ -55,9 +55,6 @@ module _ (line : List ℕ) (at : ℕ) (first : Result (At ℕ) Refusal) (is : Sp
           ))
 
       module _ (k : At ℕ) (q : second ≡ Ok k) where
-        pub board_behind : k.next ≤ length line
-        board_behind = (number_inside line n.next 0 99 second more.inside k q).1
-
         module _ (t : Bool) (closes : t ≡ same (drop k.next line) (text ")")) where
           closed_by : {x : Bool} → t ≡ x → board_row.reader (drop at line) ≡ cond x (some (forms.board n.value k.value)) none
           unfolding board_row and_then found closing
@@ -86,9 +83,6 @@ module _ (line : List ℕ) (at : ℕ) (first : Result (At ℕ) Refusal) (is : Sp
           ))
 
       module _ (v : At ℤ) (q : second ≡ Ok v) where
-        pub propose_behind : v.next ≤ length line
-        propose_behind = (inside line n.next second more.inside v q).1
-
         module _ (t : Bool) (closes : t ≡ same (drop v.next line) (text ")")) where
           figure_closed_by : {x : Bool} → t ≡ x
               → single_in (drop at line) ≡ cond x (some (forms.propose n.value v.value)) none

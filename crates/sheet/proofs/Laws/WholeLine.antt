@@ -70,9 +70,6 @@ no_word : row_in word_rows [] ≡ none
 unfolding row_in word_rows board_row propose_row steps_row show_row rounds_row same text text_from
 no_word = refl
 
-pub part_inside : (l part : List ℕ) → part ≡ first_word l → length part ≤ length l
-part_inside l part is = rw is (word_inside l)
-
 pub place_inside : (l part : List ℕ) → part ≡ first_word l → (r : Option FormWord) → named_row r ≡ row_in word_rows part
     → (w : FormWord)
     → r ≡ Some w → length part + 1 ≤ length l
