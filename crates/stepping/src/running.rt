@@ -7,39 +7,37 @@ ghost use Rattle.model.specs.Told.{run_told};
 ghost use Rattle.stepping.specs.Stepped.{RunsOn};
 
 use crate::repeated::step_counted;
-use model::{RunVerdict, Verdict};
+use model::Ran;
+use model::refusal::Refusal;
 use soundness::board::check_board;
 
 // The steps taken by the stations of the list, one after another, on a board that is known to be sound.
+#[tactic(auto, using(crate::proofs::Laws::Running::counting))]
 fn run_on(board: &mut [u8], stations: &[u8]) -> u32
-    requires { (board_refusal board.old none ≡ none) × (length stations.now ≤ 65536) }
+    requires sound { board_refusal board.old none ≡ none }
+    requires few { length stations.now ≤ 65536 }
     ensures { RunsOn stations.now board.old result board.new }
 {
-    let mut count: u32 = 0;
-    let mut i = 0;
-    while i < stations.len() {
-        count += step_counted(board, stations[i]);
-        i += 1;
+    let mut count = 0;
+    for &station in stations {
+        count += step_counted(board, station);
     }
     count
 }
 
-pub fn run(board: &mut [u8], stations: &[u8]) -> RunVerdict
-    ensures { (run_told result ≡ (run stations.now board.old).answer) × (board.new ≡ (run stations.now board.old).bytes) }
+#[tactic(auto, using(crate::proofs::Laws::Running::running), unfolding(model::specs::Told::verdict))]
+pub fn run(board: &mut [u8], stations: &[u8]) -> Result<Ran, Refusal>
+    ensures answer { run_told result ≡ (run stations.now board.old).answer }
+    ensures bytes { board.new ≡ (run stations.now board.old).bytes }
 {
     if 65536 < stations.len() {
-        return RunVerdict::Refused { number: 6 };
+        return Err(Refusal::TooManySteps);
     }
-    let checked = check_board(board);
-    match checked {
-        Verdict::Refused { number } => RunVerdict::Refused { number },
-        Verdict::Accepted => {
-            let total = stations.len() as u32;
-            let taken = run_on(board, stations);
-            RunVerdict::Ran {
-                taken,
-                passed: total - taken,
-            }
-        }
-    }
+    check_board(board)?;
+    let taken = run_on(board, stations);
+    let total = stations.len() as u32;
+    Ok(Ran {
+        taken,
+        passed: total - taken,
+    })
 }

@@ -4,16 +4,17 @@ ghost use Rattle.std.specs.Prelude.{◌≡◌};
 ghost use Rattle.model.specs.Calls.{step};
 ghost use Rattle.model.specs.Told.{told};
 
-use crate::sound_step::step_on;
-use model::{StepAnswer, Verdict};
+use crate::sound_step::{refused, step_on};
+use model::StepAnswer;
 use soundness::board::check_board;
 
+#[tactic(auto, using(crate::proofs::Laws::Checking::checking), unfolding(model::specs::Told::verdict))]
 pub fn step(board: &mut [u8], station: u8) -> StepAnswer
-    ensures { (told result ≡ (step station board.old).answer) × (board.new ≡ (step station board.old).bytes) }
+    ensures answer { told result ≡ (step station board.old).answer }
+    ensures bytes { board.new ≡ (step station board.old).bytes }
 {
-    let checked = check_board(board);
-    match checked {
-        Verdict::Refused { number } => StepAnswer::Refused { number },
-        Verdict::Accepted => step_on(board, station),
+    match check_board(board) {
+        Ok(()) => step_on(board, station),
+        Err(refusal) => refused(refusal),
     }
 }

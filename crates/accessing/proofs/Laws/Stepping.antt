@@ -15,7 +15,7 @@ use Rattle.model.specs.Layout.{station_of, changed}
 use Rattle.model.specs.Sound.{fields_sound, record_sound, most_met}
 use Rattle.model.specs.Calls.{After, Refusal, stations, islands, board_refusal, station_refusal, station_at, unless_refused}
 use Rattle.model.specs.Calls.{not_going, access, stepped, step_on}
-use Rattle.model.specs.Told.{told}
+use Rattle.model.specs.Told.{told, number}
 use Rattle.model.proofs.Basics.Tests.{and_l, and_r}
 use Rattle.model.proofs.Basics.Numbers.{Bytes}
 use Rattle.model.proofs.Basics.Splices.{length_part, byte_part}
@@ -27,8 +27,10 @@ use Rattle.model.proofs.Calls.Refusals.{board_of_lem, OnBoard, station_passes}
 use Rattle.model.proofs.Calls.Accepted.{step_on_access}
 use Rattle.model.proofs.Calls.StepsTaken.{steps_few}
 use Rattle.model.proofs.Calls.Refused.{access_accepts}
+use Rattle.std.specs.Prelude.{Ok, Err}
+use Rattle.std.specs.declared.result.Result.{Result}
+use Rattle.model.specs.declared.refusal.Refusal as refusals
 use Rattle.soundness.specs.declared.place.Place.{Place}
-use Rattle.soundness.specs.declared.place.Place.TheVariants as places
 use Rattle.codec.specs.Parts.{meeting, steps_read}
 use Rattle.soundness.specs.Placed.{On, Placed}
 use Rattle.soundness.proofs.Laws.Placing.{at_place, not_placed, own_value}
@@ -56,8 +58,9 @@ turned_down_lem i b k e = (
       (sym e),
 )
 
-pub no_station : (i : ℕ) (b : List ℕ) (p : Place) → p ≡ places.Nowhere → Placed i b p → StepsOn i b (Refused 12) b
-no_station i b p e h = turned_down_lem i b 12 (not_placed i b p e h _)
+pub no_station : (i : ℕ) (b : List ℕ) (r : Result Place refusals.Refusal) (k : refusals.Refusal) → r ≡ Err k → Placed i b r
+    → StepsOn i b (Refused (number k)) b
+no_station i b r k e h = turned_down_lem i b (number k) (not_placed i b r k e h _)
 
 -- byte 0 of a record is its phase
 phase_byte : (b : List ℕ) (at : ℕ) (f : Record) → f ≡ read_record (part at 24 b) → f.phase ≡ get_or b at 0
@@ -65,9 +68,16 @@ unfolding read_record
 phase_byte b at f e =
     ap (λ (g : Record). g.phase) e ∙ byte_part at 24 b 0 (lit< tt) ∙ ap (λ (k : ℕ). get_or b k 0) (add-zero at)
 
-module _ (i : ℕ) (b : List ℕ) (p : Place) (j at : ℕ) (is : p ≡ places.At j at) (h : Placed i b p) where
-  on : On i b j at
-  on = at_place i b p j at is h
+module _ (i : ℕ) (b : List ℕ) (found : Result Place refusals.Refusal) (p : Place) (is : found ≡ Ok p)
+    (h : Placed i b found) where
+  abbrev j : ℕ
+  j = p.index
+
+  abbrev at : ℕ
+  at = p.at
+
+  on : On i b p.index p.at
+  on = at_place i b found p is h
 
   on_board_lem : OnBoard i b
   unfolding stations
@@ -101,19 +111,19 @@ module _ (i : ℕ) (b : List ℕ) (p : Place) (j at : ℕ) (is : p ≡ places.At
       let q : get_or b at 0 ≡ suc (suc (suc (suc (suc (suc (suc (suc (get_or b at 0 - 8)))))))) = omega arith in
       by_phase _ (active own.proposal (is_spent own.island own.carried)) 16 q refl refl
 
-  number : j + 1 ≡ i
-  number = omega (arith, on.low, on.index)
+  numbered : j + 1 ≡ i
+  numbered = omega (arith, on.low, on.index)
 
   pub known_at : board_refusal b none ≡ none → Known (get_or b 0 0) (get_or b 1 0) j at b
   known_at s = record {
     sound = s;
-    on = subst (λ (k : ℕ). On k b j at) (sym number) on;
+    on = subst (λ (k : ℕ). On k b j at) (sym numbered) on;
     stations = refl;
     islands = refl;
   }
 
   pub by_number : (r : StepAnswer) (d : List ℕ) → StepsOn (j + 1) b r d → StepsOn i b r d
-  by_number r d = subst (λ (k : ℕ). StepsOn k b r d) number
+  by_number r d = subst (λ (k : ℕ). StepsOn k b r d) numbered
 
 -- ---- a going station, whose record f the code read at its place
 

@@ -2,27 +2,30 @@
 -- length.
 -- Relies on the model's runs; the laws of Repeated and the run of items rely on it.
 use Rattle.model.proofs.Kit.{◌≡◌, refl, sym, ap, subst, ◌∙◌, Bool, true, false, cond, List, [], ◌∷◌, ◌++◌, none, ℕ, ◌+◌}
-use Rattle.model.proofs.Kit.{◌≤◌, ◌<◌, lit<, length, length-append, arith}
+use Rattle.model.proofs.Kit.{◌<◌, lit<, length, length-append, arith}
 use Rattle.model.specs.Bytes.{byte}
 use Rattle.model.specs.Layout.{board_length}
 use Rattle.model.specs.Calls.{stations, islands, board_refusal, step_on, step}
 use Rattle.model.proofs.Calls.Refusals.{Board, board_of_lem, board_passes}
+use Rattle.model.specs.Listing.{accepted}
 use Rattle.model.specs.Runs.{taken, answers, after}
+use Rattle.model.proofs.Calls.Refused.{step_on_refused}
 use Rattle.model.proofs.Calls.Runs.{taken_append, answers_append, after_append, after_on, ran_keeps, ran_head}
-use Rattle.stepping.specs.Stepped.{TakesOn, RunsOn}
+use Rattle.stepping.specs.Stepped.{RunsOn}
 
 pub runs_none : (b : List ℕ) → RunsOn [] b 0 b
 unfolding RunsOn taken answers after
 runs_none b = (refl, omega arith, refl)
 
--- of one, by whether it took its step
-pub runs_one : (i : ℕ) (b : List ℕ) (r : Bool) (d : List ℕ) → TakesOn i b r d → RunsOn (i ∷ []) b (cond r 1 0) d
-unfolding RunsOn TakesOn taken answers after
-runs_one i b r d s = (omega (arith, ap {B = ℕ} (λ (x : Bool). cond x 1 0) s.0), below r, s.1)
-  where
-    below : (r : Bool) → cond r 1 0 ≤ 1
-    below true = omega arith
-    below false = omega arith
+-- of one, which is refused or takes its step
+pub runs_refused : (i : ℕ) (b : List ℕ) → accepted (step_on i b).answer.did ≡ false → RunsOn (i ∷ []) b 0 b
+unfolding RunsOn taken answers after
+runs_refused i b e = (omega (arith, ap {B = ℕ} (λ (x : Bool). cond x 1 0) e), omega arith, sym (step_on_refused i b e))
+
+pub runs_taken : (i : ℕ) (b d : List ℕ) → accepted (step_on i b).answer.did ≡ true → d ≡ (step_on i b).bytes
+    → RunsOn (i ∷ []) b 1 d
+unfolding RunsOn taken answers after
+runs_taken i b d e q = (omega (arith, ap {B = ℕ} (λ (x : Bool). cond x 1 0) e), omega arith, q)
 
 pub runs_then : (is js b d e : List ℕ) (r s : ℕ) → RunsOn is b r d → RunsOn js d s e → RunsOn (is ++ js) b (r + s) e
 unfolding RunsOn

@@ -3,18 +3,17 @@
 use Rattle.model.proofs.Kit.{◌≡◌, refl, sym, ap, subst, ◌∙◌, List, [], ◌∷◌, ◌++◌, none, some, ℕ, ◌+◌, ◌-◌, ◌≤◌, ◌<◌}
 use Rattle.model.proofs.Kit.{lt-leb, leb, le→leb, length, take, get_or, take_all, add-one, arith}
 use lib.Seq.{take-suc}
-use Rattle.model.specs.declared.Verdict.{Verdict}
-use Rattle.model.specs.declared.Verdict.TheVariants as verdicts
-use Rattle.model.specs.declared.RunVerdict.TheVariants.{Ran, Refused}
+use Rattle.std.specs.Prelude.{Ok, Err}
+use Rattle.model.specs.declared.refusal.Refusal as refusals
+use Rattle.model.specs.declared.refusal.Refusal.TheVariants.{TooManySteps}
 use Rattle.model.specs.Calls.{After, Refusal, RunAnswer, ran, not_run, board_refusal, unless, unless_refused, step_on, step}
 use Rattle.model.specs.Calls.{ran_from, run}
-use Rattle.model.specs.Told.{verdict, run_told}
+use Rattle.model.specs.Told.{verdict, number, run_told}
 use Rattle.model.proofs.Calls.Refusals.{board_of_lem, board_passes, unless_fails, unless_passes}
 use Rattle.model.proofs.Calls.CallsKeep.{step_on_keeps}
 use Rattle.model.specs.Runs.{taken, passed, answers, after}
-use Rattle.model.proofs.Calls.Runs.{taken_append, answers_append, after_append, ran_is, ran_both, run_on}
+use Rattle.model.proofs.Calls.Runs.{taken_append, answers_append, after_append, ran_to, ran_is, ran_both, run_on}
 use Rattle.stepping.specs.Stepped.{RunsOn}
-use Rattle.soundness.proofs.Laws.Checked.{turned}
 
 -- after the first i stations: the board d and the count k
 pub record AfterI (is b : List ℕ) (i : ℕ) (d : List ℕ) (k : ℕ) : Type 0 where
@@ -72,35 +71,53 @@ runs_below is b r d h = h.1
 
 -- ---- the call
 
-refuses : (is b : List ℕ) (k : ℕ) → unless (leb (length is) 65536) 6 (board_refusal b none) ≡ some k
-    → (run_told (Refused k) ≡ (run is b).answer) × (b ≡ (run is b).bytes)
-unfolding run unless_refused run_told
-refuses is b k e = (
-  ap (λ (r : Refusal). (unless_refused r not_run b (ran_from step 0 0 is b)).answer) (sym e),
-  ap (λ (r : Refusal). (unless_refused r not_run b (ran_from step 0 0 is b)).bytes) (sym e),
-)
+module _ (is b : List ℕ) where
+  module _ (r : refusals.Refusal) (e : unless (leb (length is) 65536) 6 (board_refusal b none) ≡ some (number r)) where
+    refuses_answer : run_told (Err r) ≡ (run is b).answer
+    unfolding run unless_refused run_told
+    refuses_answer = ap (λ (r : Refusal). (unless_refused r not_run b (ran_from step 0 0 is b)).answer) (sym e)
 
-pub too_many : (is b : List ℕ) → 65536 < length is → (run_told (Refused 6) ≡ (run is b).answer) × (b ≡ (run is b).bytes)
-too_many is b h = refuses is b 6 (unless_fails (leb (length is) 65536) 6 _ (lt-leb (length is) 65536 h))
+    refuses_bytes : b ≡ (run is b).bytes
+    unfolding run unless_refused
+    refuses_bytes = ap (λ (r : Refusal). (unless_refused r not_run b (ran_from step 0 0 is b)).bytes) (sym e)
 
-pub board_refuses : (is b : List ℕ) → length is ≤ 65536 → (w : Verdict) (k : ℕ) → w ≡ verdicts.Refused k
-    → verdict w ≡ board_refusal b none
-    → (run_told (Refused k) ≡ (run is b).answer) × (b ≡ (run is b).bytes)
-board_refuses is b h w k e v =
-    refuses is b k (unless_passes (leb (length is) 65536) 6 _ (le→leb (length is) 65536 h) ∙ turned b w k e v)
+  module _ (h : 65536 < length is) where
+    six : unless (leb (length is) 65536) 6 (board_refusal b none) ≡ some 6
+    six = unless_fails (leb (length is) 65536) 6 _ (lt-leb (length is) 65536 h)
 
-pub ran_through : (is b : List ℕ) → length is ≤ 65536 → board_refusal b none ≡ none → (r : ℕ) (d : List ℕ) (p : ℕ)
-    → RunsOn is b r d → p ≡ length is - r
-    → (run_told (Ran r p) ≡ (run is b).answer) × (d ≡ (run is b).bytes)
-unfolding RunsOn run_told
-ran_through is b l s r d p h e =
-    let q = run_on is b (board_of_lem b none s).0 l ∙ ran_is step_on 0 0 is b in (
-      (λ j. ran (S j) (T j)) ∙ ap (λ (x : After RunAnswer). x.answer) (sym q),
-      h.2 ∙ ap (λ (x : After RunAnswer). x.bytes) (sym q),
-    )
-  where
-    S : r ≡ 0 + taken (answers step_on b is)
-    S = omega (arith, h.0)
+    pub six_answer : run_told (Err TooManySteps) ≡ (run is b).answer
+    six_answer = refuses_answer TooManySteps six
 
-    T : p ≡ 0 + passed (answers step_on b is)
-    T = omega (arith, ran_both step_on b is, h.0, h.1)
+    pub six_bytes : b ≡ (run is b).bytes
+    six_bytes = refuses_bytes TooManySteps six
+
+  module _ (l : length is ≤ 65536) where
+    module _ (r : refusals.Refusal) (e : verdict (Err r) ≡ board_refusal b none) where
+      board_turned : unless (leb (length is) 65536) 6 (board_refusal b none) ≡ some (number r)
+      unfolding verdict
+      board_turned = unless_passes (leb (length is) 65536) 6 _ (le→leb (length is) 65536 l) ∙ sym e
+
+      pub board_answer : run_told (Err r) ≡ (run is b).answer
+      board_answer = refuses_answer r board_turned
+
+      pub board_bytes : b ≡ (run is b).bytes
+      board_bytes = refuses_bytes r board_turned
+
+    module _ (s : board_refusal b none ≡ none) (r : ℕ) (d : List ℕ) (h : RunsOn is b r d) where
+      whole : ran_to (0 + taken (answers step_on b is)) (0 + passed (answers step_on b is)) (after step_on b is) ≡ run is b
+      whole = sym (run_on is b (board_of_lem b none s).0 l ∙ ran_is step_on 0 0 is b)
+
+      pub ran_answer : (p : ℕ) → p ≡ length is - r → run_told (Ok (record { taken = r; passed = p })) ≡ (run is b).answer
+      unfolding RunsOn run_told
+      ran_answer p e =
+          let t : r ≡ 0 + taken (answers step_on b is) = omega (arith, h.0) in
+          let u : p ≡ 0 + passed (answers step_on b is) = omega (arith, ran_both step_on b is, h.0, h.1) in
+          (λ j. ran (t j) (u j)) ∙ ap (λ (x : After RunAnswer). x.answer) whole
+
+      pub ran_bytes : d ≡ (run is b).bytes
+      unfolding RunsOn
+      ran_bytes = h.2 ∙ ap (λ (x : After RunAnswer). x.bytes) whole
+
+pub ruleset counting = (small, ended)
+
+pub ruleset running = (six_answer, six_bytes, board_answer, board_bytes, runs_below, ran_answer, ran_bytes)
