@@ -1,6 +1,7 @@
 -- The place of the first mark, and what the library's `position` says of it.
 -- Relies on the definition of the first mark; the proof of `find` relies on it.
-use Rattle.std.proofs.Common.{◌≡◌, refl, sym, ap, ◌∙◌, cond, not, Bool, true, false, List, ℕ, ◌≤◌, length, Some, None, nat_eq, nat_lt, arith}
+use Rattle.std.proofs.Common.{◌≡◌, refl, sym, ap, ◌∙◌, cond, not, Bool, true}
+use Rattle.std.proofs.Common.{false, List, ℕ, ◌≤◌, length, Some, None, nat_eq, nat_lt, arith}
 use Rattle.std.proofs.lemmas.Bool.Decides.{nat_tests}
 use Rattle.std.specs.List.{position, position_or_len}
 use Rattle.std.proofs.lemmas.List.Sums.{prefix_len-le-length}
