@@ -7,32 +7,30 @@ ghost use Rattle.model.specs.Standing.{standing};
 ghost use Rattle.model.specs.Told.{standing_answered};
 
 use codec::records::record_at;
-use model::{StandingAnswer, Verdict};
+use model::Effort;
+use model::refusal::Refusal;
 use shown::standing::standing_of;
 use soundness::board::check_board;
-use soundness::place::{NO_STATION, Place, station_place};
+use soundness::place::station_place;
 
 // The same on a board that is known to be sound.
-fn standing_on(board: &[u8], station: u8) -> StandingAnswer
+#[tactic(auto, using(crate::proofs::Laws::Telling::steps))]
+fn standing_on(board: &[u8], station: u8) -> Result<Effort, Refusal>
     requires { board_refusal board.now none ≡ none }
     ensures { standing_answered result ≡ standing station board.now }
 {
-    let Place::At { index: _, at } = station_place(board, station) else {
-        return StandingAnswer::Refused { number: NO_STATION };
-    };
-    let own = record_at(board, at);
-    StandingAnswer::Stands {
+    let place = station_place(board, station)?;
+    let own = record_at(board, place.at);
+    Ok(Effort {
         standing: standing_of(own),
         steps: own.steps,
-    }
+    })
 }
 
-pub fn standing(board: &[u8], station: u8) -> StandingAnswer
+#[tactic(auto, using(crate::proofs::Laws::Telling::board_refuses), unfolding(model::specs::Told::verdict))]
+pub fn standing(board: &[u8], station: u8) -> Result<Effort, Refusal>
     ensures { standing_answered result ≡ standing station board.now }
 {
-    let checked = check_board(board);
-    match checked {
-        Verdict::Refused { number } => StandingAnswer::Refused { number },
-        Verdict::Accepted => standing_on(board, station),
-    }
+    check_board(board)?;
+    standing_on(board, station)
 }

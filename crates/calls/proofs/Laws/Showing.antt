@@ -1,29 +1,26 @@
 -- The shown line: one more station, the whole of it, and the answer at each return.
 -- Relies on the laws of the writer of lines and on the model's soundness; the proofs of `show` rely on it.
-use Rattle.model.proofs.Kit.{◌≡◌, refl, sym, ap, subst, ◌∙◌, List, [], ◌++◌, append_assoc, append-nil, none, some, ℕ}
-use Rattle.model.proofs.Kit.{◌+◌, ◌≤◌, ◌<◌, leb, le→leb, length, replicate, get_or, length-append, add-one, arith}
+use Rattle.model.proofs.Kit.{◌≡◌, sym, ap, subst, ◌∙◌, List, [], ◌∷◌, ◌++◌, append_assoc, append-nil, none, ℕ}
+use Rattle.model.proofs.Kit.{◌+◌, ◌≤◌, ◌<◌, leb, le→leb, length, get_or, length-append, add-one, arith}
 use Rattle.model.specs.declared.Record.{Record}
-use Rattle.model.specs.declared.Verdict.{Verdict}
-use Rattle.model.specs.declared.Verdict.TheVariants.{Accepted, Refused}
+use Rattle.std.specs.Prelude.{Ok, Err}
+use Rattle.std.specs.declared.result.Result.{Result}
+use Rattle.model.specs.declared.refusal.Refusal as refusals
 use Rattle.model.specs.Bytes.{part}
 use Rattle.model.specs.Figure.{Figure}
 use Rattle.model.specs.Listing.{Station}
 use Rattle.model.specs.Layout.{record_at, read_record, record_value, record_of, station_of}
 use Rattle.model.specs.Calls.{Refusal, stations, islands, board_refusal, unless}
 use Rattle.model.specs.Show.{text, text_from, statuses, shown_line, shown_as, show}
-use Rattle.model.specs.Told.{verdict, shown_told}
+use Rattle.model.specs.Told.{verdict, number, shown_told}
 use Rattle.model.proofs.Board.Values.{sound_station}
 use Rattle.model.proofs.Calls.Refusals.{Board, board_of_lem, board_passes, board_first, unless_passes}
-use Rattle.line_writer.specs.declared.line.Line.{Line}
-use Rattle.line_writer.specs.Puts.{Holds, Puts, Room}
 use Rattle.shown.specs.Texts.{status_of, island_shown}
-use Rattle.line_writer.proofs.Putting.{puts_holds}
-use Rattle.line_writer.proofs.Rooms.{holds_room}
-use Rattle.shown.proofs.Bounds.{status_bound, good_island, statuses_more, statuses_bound, line_bound, shown_is}
-use Rattle.calls.specs.Showing.{open_to, Opened}
+use Rattle.shown.proofs.Bounds.{status_bound, good_island, statuses_more, statuses_bound, line_bound}
+use Rattle.calls.specs.Showing.{open_to}
 use Rattle.model.proofs.Board.Places.{record_inside}
 use Rattle.soundness.proofs.Laws.Checked.{turned}
-use Rattle.soundness.proofs.Laws.Placing.{head}
+use Rattle.soundness.proofs.Laws.Placing.{head, head_long, n_high, k_high}
 
 module _ (b : List ℕ) (sound : board_refusal b none ≡ none) where
   h : Board b
@@ -49,55 +46,45 @@ module _ (b : List ℕ) (sound : board_refusal b none ≡ none) where
             (λ j q. islands_short j (omega arith)),
       ))
 
-  -- one more status fits
-  pub fits_one : (line : Line) (j i : ℕ) (f : Record) → Holds line (open_to j b) → j < get_or b 0 0 → i ≡ j + 1
-      → record_value f ≡ station_of (stations b) (islands b) j b → Room line (status_of i (record_value f))
-  unfolding stations
-  fits_one line j i f q l e r =
-      holds_room (open_to j b) (status_of i (record_value f)) q
-      (omega (arith, open_short j (omega arith), h.shape.stations_high, bound))
-    where
-      bound : length (status_of i (record_value f)) ≤ 28
-      bound =
-          status_bound i (record_value f) (omega (arith, h.shape.stations_high))
-          (subst (λ (z : Station Figure). island_shown z < 100) (sym r) (islands_short j l))
+  module _ (j : ℕ) (f : Record) (l : j < get_or b 0 0) (r : record_value f ≡ station_of (stations b) (islands b) j b) where
+    -- one more status fits
+    pub fits_one : length (open_to j b) + length (status_of (j + 1) (record_value f)) ≤ 512
+    unfolding stations
+    fits_one = omega (arith, open_short j (omega arith), h.shape.stations_high, bound)
+      where
+        bound : length (status_of (j + 1) (record_value f)) ≤ 28
+        bound =
+            status_bound (j + 1) (record_value f) (omega (arith, h.shape.stations_high))
+            (subst (λ (z : Station Figure). island_shown z < 100) (sym r) (islands_short j l))
 
-  pub one_more : (line next : Line) (j i : ℕ) (f : Record) → Holds line (open_to j b) → i ≡ j + 1
-      → record_value f ≡ station_of (stations b) (islands b) j b → Puts line (status_of i (record_value f)) next
-      → Holds next (open_to (j + 1) b)
-  unfolding open_to
-  one_more line next j i f q e r p =
-      subst (Holds next)
-      (append_assoc (text "(stations") (statuses j (stations b) (islands b) b) (status_of i (record_value f))
-      ∙ ap (λ (l : List ℕ). text "(stations" ++ l)
-      ((λ k. statuses j (stations b) (islands b) b ++ status_of ((e ∙ add-one j) k) (r k))
-      ∙ sym (statuses_more j (stations b) (islands b) b)
-      ∙ ap (λ (k : ℕ). statuses k (stations b) (islands b) b) (sym (add-one j))))
-      (puts_holds p (open_to j b) q)
+    pub one_more : open_to j b ++ status_of (j + 1) (record_value f) ≡ open_to (j + 1) b
+    unfolding open_to
+    one_more =
+        append_assoc (text "(stations") (statuses j (stations b) (islands b) b) (status_of (j + 1) (record_value f))
+        ∙ ap (λ (l : List ℕ). text "(stations" ++ l)
+        ((λ k. statuses j (stations b) (islands b) b ++ status_of (add-one j k) (r k))
+        ∙ sym (statuses_more j (stations b) (islands b) b)
+        ∙ ap (λ (k : ℕ). statuses k (stations b) (islands b) b) (sym (add-one j)))
 
-  pub begins : (line : Line) → Holds line (text "(stations") → Holds line (open_to 0 b)
+  pub begins : text "(stations" ≡ open_to 0 b
   unfolding open_to statuses
-  begins line q = subst (Holds line) (sym (append-nil (text "(stations"))) q
+  begins = sym (append-nil (text "(stations"))
 
-  pub all_open : (line : Line) (j : ℕ) → Holds line (open_to j b) → j ≤ get_or b 0 0 → get_or b 0 0 ≤ j → Opened b line
-  unfolding Opened stations
-  all_open line j q l m = subst (λ (k : ℕ). Holds line (open_to k b)) (omega arith) q
+  module _ (line : List ℕ) (e : line ≡ open_to (get_or b 0 0) b) where
+    pub closes : length line < 512
+    unfolding stations
+    closes = omega (arith, ap length e, open_short (stations b) (omega arith))
 
-  pub closes : (line : Line) → Opened b line → Room line (text ")")
-  unfolding Opened text text_from
-  closes line q = holds_room (open_to (stations b) b) (text ")") q (omega (arith, open_short (stations b) (omega arith)))
-
-  pub shown_on : (line next : Line) → Opened b line → Puts line (text ")") next
-      → shown_told (record { verdict = Accepted; bytes = next.bytes; len = next.len }) ≡ shown_as none (shown_line b)
-  unfolding Opened open_to shown_line
-  shown_on line next q p = shown_is next (shown_line b) (puts_holds p (open_to (stations b) b) q)
+    pub shown_on : line ++ (41 ∷ []) ≡ shown_line b
+    unfolding open_to shown_line stations text text_from
+    shown_on = ap (λ (l : List ℕ). l ++ (41 ∷ [])) e
 
   -- there is room behind the line
   pub line_short : length (shown_line b) ≤ 458
   line_short = line_bound b h.shape.stations_high islands_short
 
-  pub shows : shown_as none (shown_line b) ≡ show b
-  unfolding show
+  pub shows : shown_told (Ok (shown_line b)) ≡ show b
+  unfolding show shown_told
   shows =
       ap (λ (r : Refusal). shown_as r (shown_line b))
       (sym (board_passes b h (unless (leb (length (shown_line b)) 512) 17 none)
@@ -106,17 +93,12 @@ module _ (b : List ℕ) (sound : board_refusal b none ≡ none) where
 
 -- ---- a refused board
 
-pub not_shown : (k : ℕ)
-    → shown_told (record { verdict = Refused k; bytes = replicate 512 0; len = 0 }) ≡ shown_as (some k) []
-unfolding shown_told verdict shown_as
-not_shown k = refl
-
-pub refused_shown : (b : List ℕ) (v : Verdict) (k : ℕ) → v ≡ Refused k → verdict v ≡ board_refusal b none
-    → shown_as (some k) [] ≡ show b
-unfolding show shown_as
+pub refused_shown : (b : List ℕ) (v : Result (Unit {0}) refusals.Refusal) (k : refusals.Refusal) → v ≡ Err k
+    → verdict v ≡ board_refusal b none → shown_told (Err k) ≡ show b
+unfolding show shown_as shown_told
 refused_shown b v k e h =
     ap (λ (r : Refusal). shown_as r (shown_line b))
-    (sym (board_first b (unless (leb (length (shown_line b)) 512) 17 none) k (turned b v k e h)))
+    (sym (board_first b (unless (leb (length (shown_line b)) 512) 17 none) (number k) (turned b v k e h)))
 
 -- the record as the code read it
 pub value_at : (b : List ℕ) (j at : ℕ) (f : Record) → at ≡ record_at (get_or b 0 0) (get_or b 1 0) j
@@ -128,3 +110,8 @@ value_at b j at f e q = ap record_value q ∙ ap (λ (k : ℕ). record_value (re
 pub record_inside_at : (b : List ℕ) (j at : ℕ) → board_refusal b none ≡ none → j < get_or b 0 0
     → at ≡ record_at (get_or b 0 0) (get_or b 1 0) j → at + 24 ≤ length b
 record_inside_at b j at s l e = omega (arith, record_inside (get_or b 0 0) (get_or b 1 0) j l, (head b s).len)
+
+-- what each step of a shown line has to show, and of the call
+pub ruleset steps = (head_long, n_high, k_high, begins, value_at, record_inside_at, fits_one, one_more, closes, shown_on)
+
+pub ruleset call = (refused_shown, shows)
