@@ -1,7 +1,7 @@
 -- Items gone over as they stand in a line: what is asked of the place, and what has been done at their end, for any
 -- predicate `Done` of single steps, "what has been done is what these steps do".
 -- Relies on the model's readers of items; the contracts of the run and of the tape of items rely on it.
-use Rattle.std.specs.Prelude.{◌≡◌, Bool, cond, List, ℕ, ◌+◌, ◌≤◌, ◌<◌, length, drop}
+use Rattle.std.specs.Prelude.{◌≡◌, List, ℕ, ◌≤◌, ◌<◌, length, drop}
 use Rattle.std.proofs.Math.Option.{Option}
 use Rattle.model.specs.Forms.{Read, found, expand_item, expand, item_in, items_in}
 
@@ -38,7 +38,3 @@ ItemDone = PartDone item_in expand_item
 
 abbrev pub ItemsDone : (Done : List ℕ → Type 0) (line : List ℕ) (at next : ℕ) → Type 0
 ItemsDone = PartDone items_in expand
-
--- the repeat to go on with after repeat i: none of those that are left, where the repeat was idle
-unfoldable pub repeat_after : (idle : Bool) (i repeats : ℕ) → ℕ
-repeat_after idle i repeats = cond idle repeats (i + 1)

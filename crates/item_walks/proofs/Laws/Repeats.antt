@@ -1,20 +1,20 @@
 -- An item that repeats items, as it stands in a line: what has been done after some of its repeats, and which of them
 -- are passed over because they would do nothing.
 -- Relies on Items and on the laws of a known number; the crates that go over items rely on it.
-use Rattle.model.proofs.Kit.{◌≡◌, sym, ap, subst, ◌∙◌, subst₂, Bool, true, false, List, [], ◌++◌, append_assoc}
+use Rattle.model.proofs.Kit.{◌≡◌, sym, ap, subst, ◌∙◌, subst₂, List, [], ◌++◌, append_assoc}
 use Rattle.model.proofs.Kit.{append-nil}
 use Rattle.model.proofs.Kit.{some, ℕ, zero, suc, ◌+◌, ◌-◌, ◌≤◌, ◌<◌, length, drop, get_or, zero-add, arith}
 use native.Mathlib.Nat.{suc-add}
 use Rattle.model.specs.Forms.{Item, times, Items, repeated, expand_item, expand, Read, found, and_then, number_in, times_in}
 use Rattle.model.specs.Forms.{item_in, items_in}
-use Rattle.model.proofs.Basics.Tests.{cond_case, never}
+use Rattle.model.proofs.Basics.Tests.{never}
 use Rattle.lexer.specs.declared.At.{At}
 use Rattle.lexer.specs.Known.{NumberStands, KnownIs}
 use Rattle.lexer.proofs.Laws.Given.{found_one, Through, through}
 use Rattle.lexer.proofs.Laws.Known.{stands_there, known_found, known_range}
 use Rattle.item_reader.proofs.Laws.Items.{as_times}
 use Rattle.item_reader.proofs.Laws.Times.{times_number}
-use Rattle.item_walks.specs.ItemWalks.{RanPart, PartDone, ItemReads, ItemsRead, ItemDone, ItemsDone, repeat_after}
+use Rattle.item_walks.specs.ItemWalks.{RanPart, PartDone, ItemReads, ItemsRead, ItemDone, ItemsDone}
 use Rattle.item_walks.proofs.Laws.Items.{same_items, begins}
 
 pub repeated_join : (i j : ℕ) (l : List ℕ) → repeated i l ++ repeated j l ≡ repeated (i + j) l
@@ -57,7 +57,7 @@ module _ (Done Ran After : List ℕ → Type 0) (grow : (xs ys : List ℕ) → D
       all : i + (j - i) ≡ j
       all = omega arith
 
-  repeat_more : Repeats After line k inner next (i + 1)
+  pub repeat_more : Repeats After line k inner next (i + 1)
   unfolding repeated
   repeat_more = grown (i + 1) (omega arith) (omega arith) (subst Ran once this.ran)
     where
@@ -68,26 +68,8 @@ module _ (Done Ran After : List ℕ → Type 0) (grow : (xs ys : List ℕ) → D
       once = sym (append-nil _) ∙ ap (λ (n : ℕ). repeated n (expand repeats.there.value)) one
 
   -- where every further repeat would do nothing, those left are passed over
-  pub repeat_on : (idle : Bool) → (idle ≡ true → (xs : List ℕ) → Ran xs → (j : ℕ) → Ran (repeated j xs))
-      → (r : ℕ) → r ≡ repeat_after idle i k → Repeats After line k inner next r
-  unfolding repeat_after
-  repeat_on idle again r e =
-      subst (Repeats After line k inner next) (sym e)
-      (cond_case (λ (j : ℕ). Repeats After line k inner next j) idle k (i + 1)
-      (λ t. grown k (omega arith) (omega arith) (again t _ this.ran (k - i))) (λ t. repeat_more))
-
-module _ (idle : Bool) (i k : ℕ) where
-  pub fewer_left : i < k → (r : ℕ) → r ≡ repeat_after idle i k → k - r < k - i
-  unfolding repeat_after
-  fewer_left h r e = omega (arith, cond_case (λ (j : ℕ). i < j) idle k (i + 1) (λ t. h) (λ t. omega arith))
-
-  pub none_left : idle ≡ true → k ≡ repeat_after idle i k
-  unfolding repeat_after
-  none_left e = rw e
-
-  pub one_more : idle ≡ false → i + 1 ≡ repeat_after idle i k
-  unfolding repeat_after
-  one_more e = rw e
+  pub repeats_idle : ((xs : List ℕ) → Ran xs → (j : ℕ) → Ran (repeated j xs)) → Repeats After line k inner next k
+  repeats_idle again = grown k (omega arith) (omega arith) (again _ this.ran (k - i))
 
 -- ---- the item as it stands
 
@@ -167,3 +149,7 @@ module _ (line : List ℕ) (at : ℕ) (bracket : get_or line at 0 ≡ 40) (reads
             behind = omega (arith, times_behind, last.1);
             inside = last.2;
           }
+
+      -- all of them at once
+      pub repeats_whole : (after : ℕ) → Repeats Done line n.value n.next after n.value → ItemDone Done line at after
+      repeats_whole after repeats = repeats_end after n.value repeats (omega arith)

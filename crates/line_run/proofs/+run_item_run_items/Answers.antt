@@ -1,11 +1,11 @@
 use Rattle.model.proofs.Kit.{arith}
 use Rattle.item_reader.proofs.Laws.Items.{falls_to}
 use Rattle.item_walks.proofs.Laws.Items.{item_inside, station_stands, station-fits, one_step}
-use Rattle.item_walks.proofs.Laws.Repeats.{repeats_stand, times_behind, repeats_begin, repeats_end, fewer_left}
+use Rattle.item_walks.proofs.Laws.Repeats.{repeats_stand, times_behind, repeats_begin, repeats_end, repeats_whole}
 use Rattle.item_walks.proofs.Laws.Passing.{passed_begin, passed_inside, next_behind, at_inside, passed_less, passed_end}
 use Rattle.line_run.proofs.Laws.RunItems.{run_none, run_one, run_sound, repeat_runnable, repeat_fits, item_runnable}
 use Rattle.line_run.proofs.Laws.RunItems.{passed_fits, passed_more}
-use Rattle.line_run.proofs.Laws.Idle.{repeat_on}
+use Rattle.line_run.proofs.Laws.Idle.{repeat_on, repeat_idle}
 use Rattle.line_run.proofs.+run_item_run_items.Goals as goal
 
 pub run_item-bounds-line-at : goal.run_item-bounds-line-at
@@ -23,8 +23,8 @@ run_item-returns-then-line-at-ne40 t c = search (one_step, run_one)
 pub run_item-known_number-times-requires : goal.run_item-known_number-times-requires
 run_item-known_number-times-requires t c = repeats_stand _ _ c.if-line-at-ne40.false (search)
 
-pub run_item-loop-i-init : goal.run_item-loop-i-init
-run_item-loop-i-init t c = search (repeats_begin, run_none)
+pub run_item-loop-init : goal.run_item-loop-init
+run_item-loop-init t c = search (repeats_begin, run_none)
 
 pub run_item-run_items-run-requires : goal.run_item-run_items-run-requires
 run_item-run_items-run-requires t c = (search (falls_to, times_behind, item_inside), (search run_sound, search repeat_runnable))
@@ -32,14 +32,14 @@ run_item-run_items-run-requires t c = (search (falls_to, times_behind, item_insi
 pub run_item-overflow_add-total : goal.run_item-overflow_add-total
 run_item-overflow_add-total t c = search repeat_fits
 
-pub run_item-loop-i-smaller : goal.run_item-loop-i-smaller
-run_item-loop-i-smaller t c = search fewer_left
+pub run_item-loop-preserved : goal.run_item-loop-preserved
+run_item-loop-preserved t c = search repeat_on
 
-pub run_item-loop-i-preserved : goal.run_item-loop-i-preserved
-run_item-loop-i-preserved t c = search repeat_on
+pub run_item-returns-then-run-eq0 : goal.run_item-returns-then-run-eq0
+run_item-returns-then-run-eq0 t c = search (repeats_whole, repeat_idle)
 
-pub run_item-returns : goal.run_item-returns
-run_item-returns t c = search repeats_end
+pub run_item-returns-after-loop : goal.run_item-returns-after-loop
+run_item-returns-after-loop t c = search repeats_end
 
 pub run_items-loop-place-init : goal.run_items-loop-place-init
 run_items-loop-place-init t c = search (passed_begin, run_none)

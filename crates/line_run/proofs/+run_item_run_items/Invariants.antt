@@ -13,11 +13,8 @@ decreases-run_item l = length l.line.now - l.at
 abbrev pub decreases-run_items : goal.decreases-run_items
 decreases-run_items l = length l.line.now - l.at
 
-abbrev pub invariant-run_item-loop-i : goal.invariant-run_item-loop-i
-invariant-run_item-loop-i l = Repeats (RunFrom l.initial.board l.total l.board) l.line l.repeats l.inner l.next l.i
-
-abbrev pub decreases-run_item-loop-i : goal.decreases-run_item-loop-i
-decreases-run_item-loop-i l = l.repeats - l.i
+abbrev pub invariant-run_item-loop : goal.invariant-run_item-loop
+invariant-run_item-loop l = Repeats (RunFrom l.initial.board l.total l.board) l.line l.end l.inner l.next l.counter
 
 abbrev pub invariant-run_items-loop-place : goal.invariant-run_items-loop-place
 invariant-run_items-loop-place l = Passed (RunFrom l.initial.board l.total l.board) l.line l.at l.place

@@ -4,9 +4,9 @@
 use Rattle.model.proofs.Kit.{◌≡◌, refl, sym, ap, subst, ◌∙◌, List, [], ◌∷◌, ◌++◌, none, ℕ, ◌+◌, ◌-◌, ◌≤◌, ◌<◌, length}
 use Rattle.model.proofs.Kit.{drop, arith}
 use Prim.Native.Nat.{min}
-use Rattle.model.specs.declared.Verdict.{Verdict}
-use Rattle.model.specs.declared.Verdict.TheVariants as verdicts
-use Rattle.model.specs.declared.RunVerdict.TheVariants as runs
+use Rattle.std.specs.Prelude.{Ok, Err}
+use Rattle.model.specs.declared.refusal.Refusal.{Refusal}
+use Rattle.model.specs.declared.refusal.Refusal.TheVariants.{TooManySteps}
 use Rattle.model.specs.Calls.{board_refusal}
 use Rattle.model.specs.Forms.{Items, done, next, steps, expand, found, items_in, up_to_stop, first_word, word_place, reads}
 use Rattle.model.specs.Forms.{read_line}
@@ -19,9 +19,9 @@ use Rattle.sheet.specs.declared.form.LineForm.TheVariants.{Steps}
 use Rattle.sheet.specs.LineForms.{line_form}
 use Rattle.sheet.proofs.Laws.Readings.{read_as_lem}
 use Rattle.stepping.specs.Stepped.{RunsOn}
-use Rattle.stepping.proofs.Laws.Running.{runs_below, too_many, board_refuses, ran_through}
+use Rattle.stepping.proofs.Laws.Running.{runs_below, six_answer, six_bytes, board_answer, board_bytes, ran_answer, ran_bytes}
 use Rattle.item_walks.specs.ItemWalks.{ItemsRead, PartDone}
-use Rattle.line_run.specs.declared.PartRun.{PartRun}
+use Rattle.lexer.specs.declared.At.{At}
 use Rattle.line_run.specs.LineRuns.{ItemsRunnable, RunFrom, ItemsRun, LineCounts, RunsLine}
 
 -- the items stand behind the word, up to the line's last bracket
@@ -47,7 +47,7 @@ module _ (line : List ℕ) (at c : ℕ) (counts : LineCounts line at c) where
       → (word_place line ≡ at) × (c ≡ min (length (expand is)) 65537)
   unfolding LineCounts line_form
   counted is e =
-      let q : Steps (word_place line) (min (length (expand is)) 65537) ≡ Steps at c =
+      let q : reads (Steps (word_place line) (min (length (expand is)) 65537)) ≡ reads (Steps at c) =
       ap (line_form (word_place line)) (sym e) ∙ counts in
       let same : word_place line ≡ at = cc in
       let count : c ≡ min (length (expand is)) 65537 = cc in
@@ -61,7 +61,7 @@ module _ (line : List ℕ) (at c : ℕ) (counts : LineCounts line at c) where
 
   pub its_items : (is : Items) × (read_line line ≡ reads (steps is))
   unfolding LineCounts
-  its_items = read_as_lem (word_place line) (read_line line) (Steps at c) counts
+  its_items = read_as_lem (word_place line) (read_line line) (reads (Steps at c)) counts
 
   pub line_items : ItemsRead line at
   line_items =
@@ -73,28 +73,36 @@ module _ (line : List ℕ) (at c : ℕ) (counts : LineCounts line at c) where
   line_reads h =
       let s = its_items in record { there = line_items; few = omega (arith, (counted s.0 s.1).1) }
 
-  pub line_too_many : 65536 < c → (b : List ℕ) → RunsLine line b (runs.Refused 6) b
+  pub line_too_many : 65536 < c → (b : List ℕ) → RunsLine line b (Err TooManySteps) b
   unfolding RunsLine
-  line_too_many h b is e = too_many (expand is) b (omega (arith, (counted is e).1))
+  line_too_many h b is e =
+      let long : 65536 < length (expand is) = omega (arith, (counted is e).1) in
+      (six_answer (expand is) b long, six_bytes (expand is) b long)
 
   module _ (small : c ≤ 65536) (b : List ℕ) where
-    pub line_refused : (w : Verdict) (k : ℕ) → w ≡ verdicts.Refused k → verdict w ≡ board_refusal b none
-        → RunsLine line b (runs.Refused k) b
-    unfolding RunsLine
-    line_refused w k e v is q = board_refuses (expand is) b (omega (arith, (counted is q).1)) w k e v
+    short : (is : Items) → read_line line ≡ reads (steps is) → length (expand is) ≤ 65536
+    short is e = omega (arith, (counted is e).1)
 
-    module _ (w : PartRun) (d : List ℕ) (items-run : ItemsRun line at b w d) where
-      ran_on : (is : Items) → read_line line ≡ reads (steps is) → RunsOn (expand is) b w.taken d
+    pub line_refused : (k : Refusal) → verdict (Err k) ≡ board_refusal b none → RunsLine line b (Err k) b
+    unfolding RunsLine
+    line_refused k v is q =
+        (board_answer (expand is) b (short is q) k v, board_bytes (expand is) b (short is q) k v)
+
+    module _ (w : At ℕ) (d : List ℕ) (items-run : ItemsRun line at b w d) where
+      ran_on : (is : Items) → read_line line ≡ reads (steps is) → RunsOn (expand is) b w.value d
       unfolding PartDone RunFrom
       ran_on is e = (items-run _ is [] (items_there is e)).ran
 
-      pub taken_below : w.taken ≤ c
+      pub taken_below : w.value ≤ c
       taken_below =
           let s = its_items in omega (arith, (counted s.0 s.1).1, runs_below _ _ _ _ (ran_on s.0 s.1))
 
-      pub line_ran : board_refusal b none ≡ none → RunsLine line b (runs.Ran w.taken (c - w.taken)) d
+      pub line_ran : board_refusal b none ≡ none → RunsLine line b (Ok (record { taken = w.value; passed = c - w.value })) d
       unfolding RunsLine
       line_ran sound is e =
-          let all : c ≡ length (expand is) = omega (arith, (counted is e).1) in
-          ran_through (expand is) b (omega (arith, (counted is e).1)) sound w.taken d (c - w.taken) (ran_on is e)
-          (ap (λ (x : ℕ). x - w.taken) all)
+          let all : c ≡ length (expand is) = omega (arith, (counted is e).1) in (
+            ran_answer (expand is) b (short is e) sound w.value d (ran_on is e) (c - w.value) (ap (λ (x : ℕ). x - w.value) all),
+            ran_bytes (expand is) b (short is e) sound w.value d (ran_on is e),
+          )
+
+pub ruleset lines = (line_too_many, line_refused, line_reads, taken_below, line_ran)

@@ -1,8 +1,8 @@
 -- A repeat in which no step is taken: the board stays as it was, and so it does in every repeat that would follow.
 -- Relies on the laws of repeats gone over, on runs put together of runs and on the model's refused steps; the proof of
 -- `run_item` and `run_items` relies on it.
-use Rattle.model.proofs.Kit.{◌≡◌, refl, sym, ap, subst, ◌∙◌, Bool, true, false, cond, List, [], ◌∷◌, ℕ, zero, suc}
-use Rattle.model.proofs.Kit.{◌+◌, ◌<◌, eqb-true, eqb, arith}
+use Rattle.model.proofs.Kit.{◌≡◌, refl, sym, ap, subst, ◌∙◌, Bool, true, false, cond, List, [], ◌∷◌, ◌++◌, ℕ, zero, suc}
+use Rattle.model.proofs.Kit.{◌+◌, ◌<◌, arith}
 use Rattle.model.specs.Calls.{step_on}
 use Rattle.model.specs.Listing.{accepted}
 use Rattle.model.specs.Forms.{repeated}
@@ -10,10 +10,9 @@ use Rattle.model.specs.Runs.{taken, answers, after}
 use Rattle.model.proofs.Calls.Refused.{step_on_refused}
 use Rattle.stepping.specs.Stepped.{RunsOn}
 use Rattle.stepping.proofs.Laws.Joined.{runs_none, runs_then}
-use Rattle.item_walks.specs.ItemWalks.{repeat_after}
 use Rattle.item_walks.proofs.Laws.Repeats as walks
 use Rattle.item_walks.proofs.Laws.Repeats.{Repeats}
-use Rattle.line_run.specs.declared.PartRun.{PartRun}
+use Rattle.lexer.specs.declared.At.{At}
 use Rattle.line_run.specs.LineRuns.{RunFrom, ItemsRun}
 use Rattle.line_run.proofs.Laws.RunItems.{run_then}
 
@@ -56,11 +55,19 @@ idle_repeats b d t z is h j =
 
 -- ---- the repeats of an item
 
+-- another repeat
 pub repeat_on : (line b : List ℕ) (k inner : ℕ) (d : List ℕ) (total place i : ℕ)
     → Repeats (RunFrom b total d) line k inner place i → i < k
-    → (w : PartRun) (e : List ℕ) → ItemsRun line inner d w e → (r : ℕ) → r ≡ repeat_after (eqb w.taken 0) i k
-    → Repeats (RunFrom b (total + w.taken) e) line k inner w.next r
+    → (w : At ℕ) (e : List ℕ) → ItemsRun line inner d w e → Repeats (RunFrom b (total + w.value) e) line k inner w.next (i + 1)
 repeat_on line b k inner d total place i repeats more w e runs =
-    walks.repeat_on (RunFrom b total d) (RunFrom d w.taken e) (RunFrom b (total + w.taken) e)
-    (run_then b d e total w.taken) line k inner place i repeats more w.next runs (eqb w.taken 0)
-    (λ t. idle_repeats d e w.taken (eqb-true w.taken 0 t))
+    walks.repeat_more (RunFrom b total d) (RunFrom d w.value e) (RunFrom b (total + w.value) e)
+    (run_then b d e total w.value) line k inner place i repeats more w.next runs
+
+-- one that takes no step stands for all that are left
+pub repeat_idle : (line b : List ℕ) (k inner : ℕ) (d : List ℕ) (total place i : ℕ)
+    → Repeats (RunFrom b total d) line k inner place i → i < k
+    → (w : At ℕ) (e : List ℕ) → ItemsRun line inner d w e → w.value ≡ 0 → Repeats (RunFrom b total e) line k inner w.next k
+repeat_idle line b k inner d total place i repeats more w e runs z =
+    walks.repeats_idle (RunFrom b total d) (RunFrom d w.value e) (RunFrom b total e)
+    (λ xs ys h g. subst (λ (t : ℕ). RunFrom b t e (xs ++ ys)) (omega (arith, z)) (run_then b d e total w.value xs ys h g))
+    line k inner place i repeats more w.next runs (idle_repeats d e w.value z)

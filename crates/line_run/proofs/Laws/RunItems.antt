@@ -7,7 +7,7 @@ use native.Mathlib.Nat.{mul-le-mul_right}
 use Rattle.model.specs.Calls.{board_refusal}
 use Rattle.model.specs.Forms.{Items, expand_item, expand}
 use Rattle.model.proofs.Sheet.Limits.{length_repeated}
-use Rattle.lexer.specs.declared.known.KnownNumber.{KnownNumber}
+use Rattle.lexer.specs.declared.At.{At}
 use Rattle.lexer.specs.Known.{KnownIs}
 use Rattle.stepping.specs.Stepped.{RunsOn}
 use Rattle.stepping.proofs.Laws.Running.{runs_below}
@@ -17,7 +17,6 @@ use Rattle.item_walks.proofs.Laws.Items.{same_items}
 use Rattle.item_walks.proofs.Laws.Repeats.{Repeats, times_steps}
 use Rattle.item_walks.proofs.Laws.Passing as passing
 use Rattle.item_walks.proofs.Laws.Passing.{Passed, NextRead, item_steps}
-use Rattle.line_run.specs.declared.PartRun.{PartRun}
 use Rattle.line_run.specs.LineRuns.{ItemRunnable, ItemsRunnable, RunFrom, ItemRuns, ItemsRun}
 
 -- ---- runs from a board to another
@@ -52,7 +51,7 @@ module _ (b d : List ℕ) (t : ℕ) (is : List ℕ) (h : RunFrom b t d is) where
 -- ---- an item that repeats
 
 module _ (line : List ℕ) (at : ℕ) (item : ItemRunnable line at) (bracket : get_or line at 0 ≡ 40)
-    (n : KnownNumber) (is : KnownIs line (at + 7) n) (b d : List ℕ) (total after i : ℕ)
+    (n : At ℕ) (is : KnownIs line (at + 7) n) (b d : List ℕ) (total after i : ℕ)
     (repeats : Repeats (RunFrom b total d) line n.value n.next after i) (more : i < n.value) where
   -- the steps of one repeat
   abbrev inner : List ℕ
@@ -74,7 +73,7 @@ module _ (line : List ℕ) (at : ℕ) (item : ItemRunnable line at) (bracket : g
   pub repeat_runnable : ItemsRunnable line n.next
   repeat_runnable = record { there = repeats.there; few = omega (arith, few_up_to 1 (omega arith)) }
 
-  pub repeat_fits : (w : PartRun) (e : List ℕ) → ItemsRun line n.next d w e → Fits w32 (total + w.taken)
+  pub repeat_fits : (w : At ℕ) (e : List ℕ) → ItemsRun line n.next d w e → Fits w32 (total + w.value)
   unfolding PartDone
   repeat_fits w e runs =
       record {
@@ -109,8 +108,8 @@ module _ (line : List ℕ) (at : ℕ) (items : ItemsRunnable line at) (b d : Lis
   pub item_runnable : ItemRunnable line (place + 1)
   item_runnable = record { there = item.item; few = omega (arith, few_so_far) }
 
-  module _ (w : PartRun) (e : List ℕ) (runs : ItemRuns line (place + 1) d w e) where
-    pub passed_fits : Fits w32 (total + w.taken)
+  module _ (w : At ℕ) (e : List ℕ) (runs : ItemRuns line (place + 1) d w e) where
+    pub passed_fits : Fits w32 (total + w.value)
     unfolding PartDone
     passed_fits =
         record {
@@ -123,8 +122,8 @@ module _ (line : List ℕ) (at : ℕ) (items : ItemsRunnable line at) (b d : Lis
               );
         }
 
-    pub passed_more : Passed (RunFrom b (total + w.taken) e) line at w.next
+    pub passed_more : Passed (RunFrom b (total + w.value) e) line at w.next
     passed_more =
-        passing.passed_more (RunFrom b total d) line at place passed space (RunFrom d w.taken e)
-        w.next runs (RunFrom b (total + w.taken) e)
-        (run_then b d e total w.taken)
+        passing.passed_more (RunFrom b total d) line at place passed space (RunFrom d w.value e)
+        w.next runs (RunFrom b (total + w.value) e)
+        (run_then b d e total w.value)
