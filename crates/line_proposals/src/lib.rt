@@ -9,51 +9,50 @@ ghost use Rattle.model.specs.Calls.{board_refusal};
 ghost use Rattle.line_proposals.specs.LinePairs.{PairStands, PairIs, PairsStand, PairsRefuse, PairsTaken, PairsPut};
 ghost use Rattle.line_proposals.specs.LinePairs.{PairsPropose, LineHas, ProposesLine};
 
+use lexer::At;
 use lexer::known::{known_figure, known_number};
-use model::Verdict;
+use model::refusal::Refusal;
+use pair_reader::Pair;
 use proposing::single::put_in;
 use proposing::trying::try_pair;
 use soundness::board::check_board;
 
-// A pair, and the place after it.
-#[derive(Clone, Copy)]
-pub struct PairAt {
-    pub station: u8,
-    pub figure: i32,
-    pub next: usize,
-}
-
 // The pair whose bracket opens at `at`.
-fn pair_at(line: &[u8], at: usize) -> PairAt
+#[tactic(auto, using(crate::proofs::Laws::OnePair::steps))]
+fn pair_at(line: &[u8], at: usize) -> At<Pair>
     requires { PairStands line.now at }
     ensures { PairIs line.now at result }
 {
     let station = known_number(line, at + 1);
     let figure = known_figure(line, station.next);
-    PairAt {
-        station: station.value as u8,
-        figure: figure.value,
+    At {
+        value: Pair {
+            station: station.value as u8,
+            figure: figure.value,
+        },
         next: figure.next + 1,
     }
 }
 
-// What a sound board refuses the pairs from `at` on with, 0 for pairs that it takes.
-fn refusal_at(board: &[u8], line: &[u8], at: usize) -> u8
+// What a sound board refuses the pairs from `at` on with.
+#[tactic(auto, using(crate::proofs::Laws::AllPairs::trying))]
+fn refusal_at(board: &[u8], line: &[u8], at: usize) -> Result<(), Refusal>
     requires { (board_refusal board.now none ≡ none) × PairsStand line.now at }
     ensures { PairsRefuse line.now at board.now result }
 {
-    let mut flags: [bool; 256] = [false; 256];
-    let mut number: u8 = 0;
+    let mut flags = [false; 256];
+    let mut so_far = Ok(());
     let mut place = at;
     while line[place] == b' ' {
         let pair = pair_at(line, place + 1);
-        number = try_pair(board, &mut flags, pair.station, number);
+        so_far = try_pair(board, &mut flags, pair.value.station, so_far);
         place = pair.next;
     }
-    number
+    so_far
 }
 
 // Each pair from `at` on put in, on a board that takes every one of them.
+#[tactic(auto, using(crate::proofs::Laws::AllPairs::putting))]
 fn put_pairs_at(board: &mut [u8], line: &[u8], at: usize)
     requires { PairsTaken line.now at board.old }
     ensures { PairsPut line.now at board.old board.new }
@@ -61,32 +60,28 @@ fn put_pairs_at(board: &mut [u8], line: &[u8], at: usize)
     let mut place = at;
     while line[place] == b' ' {
         let pair = pair_at(line, place + 1);
-        put_in(board, pair.station, pair.figure);
+        put_in(board, pair.value.station, pair.value.figure);
         place = pair.next;
     }
 }
 
 // Nothing is put in before the last pair has passed.
-fn propose_pairs_at(board: &mut [u8], line: &[u8], at: usize) -> Verdict
+#[tactic(auto, using(crate::proofs::Laws::WholeLine::steps))]
+fn propose_pairs_at(board: &mut [u8], line: &[u8], at: usize) -> Result<(), Refusal>
     requires { (board_refusal board.old none ≡ none) × PairsStand line.now at }
     ensures { PairsPropose line.now at board.old result board.new }
 {
-    let number = refusal_at(board, line, at);
-    if number != 0 {
-        return Verdict::Refused { number };
-    }
+    refusal_at(board, line, at)?;
     put_pairs_at(board, line, at);
-    Verdict::Accepted
+    Ok(())
 }
 
 // A line that was read as pairs, on a lent board. The first pair stands behind the space at `at`.
-pub fn propose_line(board: &mut [u8], line: &[u8], at: usize) -> Verdict
+#[tactic(auto, using(crate::proofs::Laws::WholeLine::call), unfolding(model::specs::Told::verdict))]
+pub fn propose_line(board: &mut [u8], line: &[u8], at: usize) -> Result<(), Refusal>
     requires { LineHas line.now at }
     ensures { ProposesLine line.now board.old result board.new }
 {
-    let checked = check_board(board);
-    match checked {
-        Verdict::Refused { number } => Verdict::Refused { number },
-        Verdict::Accepted => propose_pairs_at(board, line, at),
-    }
+    check_board(board)?;
+    propose_pairs_at(board, line, at)
 }

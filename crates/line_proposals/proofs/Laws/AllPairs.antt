@@ -2,6 +2,9 @@
 -- Relies on the walk along a list in a line and on pairs tried and put in; the proofs of the two loops rely on it.
 use Rattle.model.proofs.Kit.{◌≡◌, refl, sym, ap, subst, ◌∙◌, Bool, false, List, [], ◌∷◌, ◌++◌, none, ℕ, ◌+◌}
 use Rattle.model.proofs.Kit.{◌-◌, ◌<◌, length, replicate, get_or, w32, to_z, of_z, to_z-of_z, SFits, arith}
+use Rattle.std.specs.Prelude.{Ok}
+use Rattle.std.specs.declared.result.Result.{Result}
+use Rattle.model.specs.declared.refusal.Refusal.{Refusal}
 use Rattle.model.specs.Calls.{board_refusal, proposal_refusal, propose}
 use Rattle.model.specs.Forms.{pair_in, pairs_in}
 use Rattle.model.specs.Grammar.{written_pair, PairInRange}
@@ -10,11 +13,12 @@ use Rattle.model.specs.AnyOrder.{AllAccepted}
 use Rattle.model.proofs.Calls.Refusals.{board_passes}
 use Rattle.model.proofs.Calls.Proposals.{accepted_of, accepted_later, one_by_one_more}
 use Rattle.model.proofs.Sheet.Pairs.{pair_read, pair_stood}
+use Rattle.lexer.specs.declared.At.{At}
+use Rattle.pair_reader.specs.declared.Pair.{Pair}
 use Rattle.lexer.proofs.Laws.Given.{found_one}
 use Rattle.list_laws.proofs.Laws.Walks.{Kind, Walk, walk_begun, walk_inside, walk_ended, Next, next, Behind, walk_more}
 use Rattle.proposing.specs.Tried.{Tried, TriesNext}
 use Rattle.proposing.proofs.Laws.Trying.{tried_none}
-use Rattle.line_proposals.specs.declared.PairAt.{PairAt}
 use Rattle.line_proposals.specs.LinePairs.{PairStands, PairRead, PairIs, PairsStand, PairsTaken, OfPairs}
 use Rattle.line_proposals.specs.LinePairs.{PairsPut, PairsRefuse}
 
@@ -38,7 +42,7 @@ module _ (line : List ℕ) (at : ℕ) (past : List Proposal) (place : ℕ) (w : 
   unfolding pair_kind
   stands = record { pair = its.thing; rest = _; read = its.read }
 
-  module _ (r : PairAt) (is : PairIs line (place + 1) r) where
+  module _ (r : At Pair) (is : PairIs line (place + 1) r) where
     there : PairRead line (place + 1) its.thing (Behind pair_kind line at past place w more) r
     unfolding PairIs pair_kind its
     there = is its.thing _ its.read
@@ -52,13 +56,13 @@ module _ (line : List ℕ) (at : ℕ) (past : List Proposal) (place : ℕ) (w : 
 
 -- ---- pairs that are tried
 
-pub record TriedAt (b line : List ℕ) (at place : ℕ) (flags : List Bool) (number : ℕ) : Type 0 where
+pub record TriedAt (b line : List ℕ) (at place : ℕ) (flags : List Bool) (so_far : Result (Unit {0}) Refusal) : Type 0 where
   pub past : List Proposal
   pub walk : Walk pair_kind line at past place
-  pub tried : Tried b past flags number
+  pub tried : Tried b past flags so_far
 
 module _ (b line : List ℕ) (at : ℕ) where
-  pub tried_begun : PairsStand line at → TriedAt b line at at (replicate 256 false) 0
+  pub tried_begun : PairsStand line at → TriedAt b line at at (replicate 256 false) (Ok tt)
   unfolding pairs_in pair_kind
   tried_begun h = record {
     past = [];
@@ -66,14 +70,14 @@ module _ (b line : List ℕ) (at : ℕ) where
     tried = tried_none b;
   }
 
-  module _ (place : ℕ) (flags : List Bool) (number : ℕ) (t : TriedAt b line at place flags number) where
+  module _ (place : ℕ) (flags : List Bool) (so_far : Result (Unit {0}) Refusal) (t : TriedAt b line at place flags so_far) where
     pub tried_inside : place < length line
     tried_inside = walk_inside pair_kind line at t.past place t.walk
 
     pub tried_size : length flags ≡ 256
     tried_size = t.tried.stations.size
 
-    pub tried_all : (get_or line place 0 ≡ 32 → ⊥) → PairsRefuse line at b number
+    pub tried_all : (get_or line place 0 ≡ 32 → ⊥) → PairsRefuse line at b so_far
     unfolding OfPairs pairs_in pair_kind
     tried_all closed ps rest e =
         t.tried.refused
@@ -84,11 +88,11 @@ module _ (b line : List ℕ) (at : ℕ) where
       pub tried_stands : PairStands line (place + 1)
       tried_stands = stands line at t.past place t.walk more
 
-      module _ (r : PairAt) (is : PairIs line (place + 1) r) where
+      module _ (r : At Pair) (is : PairIs line (place + 1) r) where
         pub tried_less : length line - r.next < length line - place
         tried_less = less line at t.past place t.walk more r is
 
-        pub tried_more : (after : List Bool) (n : ℕ) → TriesNext b flags r.station number after n
+        pub tried_more : (after : List Bool) (n : Result (Unit {0}) Refusal) → TriesNext b flags r.value.station so_far after n
             → TriedAt b line at r.next after n
         unfolding TriesNext
         tried_more after n tries = record {
@@ -148,25 +152,25 @@ module _ (b line : List ℕ) (at : ℕ) where
           subst (λ (c : List ℕ). (propose q.station q.figure c).answer ≡ none) (sym p.put)
           (accepted_later p.past _ b (subst (λ (l : List Proposal). AllAccepted l b) same p.all.taken)).0
 
-      module _ (r : PairAt) (is : PairIs line (place + 1) r) where
+      module _ (r : At Pair) (is : PairIs line (place + 1) r) where
         pub put_less : length line - r.next < length line - place
         put_less = less line at p.past place p.walk more r is
 
-        station : r.station ≡ q.station
+        station : r.value.station ≡ q.station
         unfolding q
         station = (there line at p.past place p.walk more r is).station
 
-        its_own : (propose r.station q.figure d).answer ≡ none
+        its_own : (propose r.value.station q.figure d).answer ≡ none
         its_own = rw station accepted
 
         pub put_sound : board_refusal d none ≡ none
-        put_sound = board_passes d (accepted_of r.station q.figure d its_own).0 none
+        put_sound = board_passes d (accepted_of r.value.station q.figure d its_own).0 none
 
-        pub put_free : proposal_refusal r.station d ≡ none
-        put_free = (accepted_of r.station q.figure d its_own).1
+        pub put_free : proposal_refusal r.value.station d ≡ none
+        put_free = (accepted_of r.value.station q.figure d its_own).1
 
-        pub put_more : (c : List ℕ) → c ≡ (propose r.station (to_z w32 (of_z w32 r.figure)) d).bytes
-            → SFits w32 r.figure → PutAt b line at c r.next
+        pub put_more : (c : List ℕ) → c ≡ (propose r.value.station (to_z w32 (of_z w32 r.value.figure)) d).bytes
+            → SFits w32 r.value.figure → PutAt b line at c r.next
         unfolding q one_by_one
         put_more c e fits = record {
           all = p.all;
@@ -178,3 +182,8 @@ module _ (b line : List ℕ) (at : ℕ) where
               ((to_z-of_z fits ∙ (there line at p.past place p.walk more r is).figure) k) (p.put k)).bytes)
               ∙ sym (one_by_one_more p.past (q ∷ []) b);
         }
+
+-- what the code finds in the two loops by itself
+pub ruleset trying = (tried_size, tried_more)
+
+pub ruleset putting = (put_begun, put_more)

@@ -12,8 +12,7 @@ use Rattle.model.proofs.Sheet.Numbers.{figure_signed}
 use Rattle.model.proofs.Sheet.NumbersBack.{Stood}
 use Rattle.model.proofs.Sheet.Lists.{station_read, space_stops, bracket_stops}
 use Rattle.model.proofs.Sheet.Pairs.{pair_regrouped, pair_stood}
-use Rattle.lexer.specs.declared.known.KnownNumber.{KnownNumber}
-use Rattle.lexer.specs.declared.known.KnownFigure.{KnownFigure}
+use Rattle.lexer.specs.declared.At.{At}
 use Rattle.lexer.specs.Known.{NumberStands, KnownIs, FigureStands, KnownFigureIs}
 use Rattle.lexer.proofs.Laws.Given.{found_one}
 use Rattle.lexer.proofs.Laws.Known.{known_inside, known_found}
@@ -38,7 +37,7 @@ module _ (line : List ℕ) (at : ℕ) (p : Proposal) (rest : List ℕ) (read : p
       ap (number_in 0 99) (sym (behind_first line at) ∙ ap (drop 1) (stood.0 ∙ pair_regrouped p rest))
       ∙ station_read p.station stood.1.0 _ (space_stops _)
 
-  module _ (n : KnownNumber) (is : KnownIs line (at + 1) n) where
+  module _ (n : At ℕ) (is : KnownIs line (at + 1) n) where
     station_is : (n.value ≡ p.station) × (drop n.next line ≡ Behind)
     unfolding found
     station_is =
@@ -49,7 +48,7 @@ module _ (line : List ℕ) (at : ℕ) (p : Proposal) (rest : List ℕ) (read : p
     figure_there =
         ap (spaced figure_in) station_is.1 ∙ figure_signed p.figure stood.1.1 _ (bracket_stops rest)
 
-    module _ (f : KnownFigure) (has : KnownFigureIs line n.next f) where
+    module _ (f : At Figure) (has : KnownFigureIs line n.next f) where
       figure_is : (f.value ≡ p.figure) × (drop f.next line ≡ 41 ∷ rest)
       figure_is = figure_known line n.next p.figure (41 ∷ rest) figure_there f has
 
@@ -57,7 +56,7 @@ module _ (line : List ℕ) (at : ℕ) (p : Proposal) (rest : List ℕ) (read : p
       bracket_inside = some_byte line f.next 41 rest figure_is.1
 
       read_so : (v : Figure) → v ≡ f.value
-          → PairRead line at p rest (record { station = n.value; figure = v; next = f.next + 1 })
+          → PairRead line at p rest (record { value = record { station = n.value; figure = v }; next = f.next + 1 })
       read_so v e = record {
         station = station_is.0;
         figure = e ∙ figure_is.0;
@@ -75,7 +74,7 @@ module _ (line : List ℕ) (at : ℕ) (h : PairStands line at) where
   pub pair_inside : at + 1 < length line
   pair_inside = known_inside line (at + 1) number_stands_there
 
-  module _ (n : KnownNumber) (is : KnownIs line (at + 1) n) where
+  module _ (n : At ℕ) (is : KnownIs line (at + 1) n) where
     pub figure_stands : FigureStands line n.next
     unfolding FigureStands found
     figure_stands = (_, figure_there line at _ _ h.read n is)
@@ -86,11 +85,14 @@ module _ (line : List ℕ) (at : ℕ) (h : PairStands line at) where
       fits = omega (arith, (station_is line at _ _ h.read n is).0, (stood line at _ _ h.read).1.0);
     }
 
-    module _ (f : KnownFigure) (has : KnownFigureIs line n.next f) where
+    module _ (f : At Figure) (has : KnownFigureIs line n.next f) where
       pub next_fits : Fits w64 (length line) → Fits w64 (f.next + 1)
       next_fits long = record { fits = omega (arith, long.fits, bracket_inside line at _ _ h.read n is f has) }
 
       pub pair_is : (v : Figure) → v ≡ f.value
-          → PairIs line at (record { station = n.value; figure = v; next = f.next + 1 })
+          → PairIs line at (record { value = record { station = n.value; figure = v }; next = f.next + 1 })
       unfolding PairIs
       pair_is v e p rest read = read_so line at p rest read n is f has v e
+
+-- what the code finds by itself
+pub ruleset steps = (number_stands_there, next_fits, pair_is)

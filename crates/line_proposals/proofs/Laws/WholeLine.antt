@@ -3,8 +3,9 @@
 -- relies on it.
 use Rattle.model.proofs.Kit.{◌≡◌, refl, sym, ap, subst, ◌∙◌, List, [], ◌∷◌, ◌++◌, none, ℕ, ◌≤◌, length, drop}
 use Rattle.model.proofs.Kit.{length-append, arith}
-use Rattle.model.specs.declared.Verdict.{Verdict}
-use Rattle.model.specs.declared.Verdict.TheVariants.{Accepted, Refused}
+use Rattle.std.specs.Prelude.{Ok, Err}
+use Rattle.std.specs.declared.result.Result.{Result}
+use Rattle.model.specs.declared.refusal.Refusal.{Refusal}
 use Rattle.model.specs.Bytes.{Each}
 use Rattle.model.specs.Show.{text, text_from}
 use Rattle.model.specs.Calls.{board_refusal}
@@ -33,23 +34,23 @@ all_fit line at h =
     pairs_fit h.pairs
     (subst (Always (ListStood written_pair PairInRange (drop at line))) h.read (pairs_stood _)).1
 
-module _ (line : List ℕ) (at : ℕ) (b : List ℕ) (sound : board_refusal b none ≡ none) (r : ℕ)
+module _ (line : List ℕ) (at : ℕ) (b : List ℕ) (sound : board_refusal b none ≡ none) (r : Result (Unit {0}) Refusal)
     (says : PairsRefuse line at b r) where
-  pub pairs_refused : (r ≡ 0 → ⊥) → PairsPropose line at b (Refused r) b
+  pub pairs_refused : (k : Refusal) → r ≡ Err k → PairsPropose line at b (Err k) b
   unfolding OfPairs
-  pairs_refused ne ps rest e = pairs_refuse ps b sound r (says ps rest e) ne
+  pairs_refused k z ps rest e = pairs_refuse ps b sound r (says ps rest e) k z
 
-  module _ (z : r ≡ 0) where
+  module _ (x : Unit {0}) (z : r ≡ Ok x) where
     pub pairs_taken : PairsStand line at → PairsTaken line at b
     unfolding OfPairs
     pairs_taken h = record {
       stand = h;
-      taken = pairs_free h.pairs b sound r (says h.pairs h.rest h.read) z (all_fit line at h);
+      taken = pairs_free h.pairs b sound r (says h.pairs h.rest h.read) x z (all_fit line at h);
     }
 
-    pub pairs_done : (d : List ℕ) → PairsPut line at b d → PairsPropose line at b Accepted d
+    pub pairs_done : (d : List ℕ) → PairsPut line at b d → PairsPropose line at b (Ok tt) d
     unfolding OfPairs
-    pairs_done d put ps rest e = pairs_put ps b sound r (says ps rest e) z d (put ps rest e)
+    pairs_done d put ps rest e = pairs_put ps b sound r (says ps rest e) x z d (put ps rest e)
 
 -- ---- a line that was read as pairs
 
@@ -82,7 +83,7 @@ module _ (line : List ℕ) (ps : List Proposal) (e : read_line line ≡ reads (f
     placed : word_place line ≡ at
     unfolding LineHas LineCounts line_form
     placed =
-        let q : line-forms.Proposals (word_place line) (length ps) ≡ line-forms.Proposals at has.0
+        let q : reads (line-forms.Proposals (word_place line) (length ps)) ≡ reads (line-forms.Proposals at has.0)
         = sym (ap (line_form (word_place line)) e) ∙ has.1 in cc
 
     there : pairs_in (drop at line) ≡ found ps []
@@ -95,23 +96,28 @@ module _ (line : List ℕ) (at : ℕ) (has : LineHas line at) where
   pub pairs_stand : PairsStand line at
   unfolding LineHas LineCounts
   pairs_stand =
-      let q = read_as_lem (word_place line) (read_line line) (line-forms.Proposals at has.0) has.1 in
+      let q = read_as_lem (word_place line) (read_line line) (reads (line-forms.Proposals at has.0)) has.1 in
       record { pairs = q.0; rest = []; read = there line q.0 q.1 at has }
 
   module _ (b : List ℕ) where
-    pub line_proposed : (r : Verdict) (d : List ℕ) → PairsPropose line at b r d → ProposesLine line b r d
+    pub line_proposed : (r : Result (Unit {0}) Refusal) (d : List ℕ) → PairsPropose line at b r d → ProposesLine line b r d
     unfolding OfPairs ProposesLine
     line_proposed r d h ps e = h ps [] (there line ps e at has)
 
-pub line_refused : (line b : List ℕ) (w : Verdict) (k : ℕ) → w ≡ Refused k → verdict w ≡ board_refusal b none
-    → ProposesLine line b (Refused k) b
+pub line_refused : (line b : List ℕ) (w : Result (Unit {0}) Refusal) (k : Refusal) → w ≡ Err k → verdict w ≡ board_refusal b none
+    → ProposesLine line b (Err k) b
 unfolding ProposesLine ProposesAll
 line_refused line b w k e h ps q = board_refuses_all ps b w k e h
+
+-- what the code finds by itself, on a sound board and of the call
+pub ruleset steps = (pairs_refused, pairs_done)
+
+pub ruleset call = (pairs_stand, line_proposed, line_refused)
 
 -- the count that the line was read with is that of its pairs
 pub counted : (line : List ℕ) (at count : ℕ) → LineCounts line at count → (ps : List Proposal)
     → read_line line ≡ reads (forms.proposals ps) → count ≡ length ps
 unfolding LineCounts line_form
 counted line at count has ps e =
-    let q : line-forms.Proposals (word_place line) (length ps) ≡ line-forms.Proposals at count
+    let q : reads (line-forms.Proposals (word_place line) (length ps)) ≡ reads (line-forms.Proposals at count)
     = sym (ap (line_form (word_place line)) e) ∙ has in cc
