@@ -1,5 +1,5 @@
 -- How long the lines of a run sheet can be: each leaves room for its LF.
--- Relies on Decimals; the proofs of the lines and the player rely on it.
+-- Relies on Decimals; the answers of a sheet and the player rely on it.
 use Rattle.model.proofs.Kit.{ℕ, ◌<◌, length, length-append, arith}
 use Rattle.model.specs.Figure.{Figure}
 use Rattle.model.specs.Show.{text, text_from}

@@ -5,7 +5,7 @@
 pub mod single;
 
 // Lines still to be passed over, lines still to be put in, and how many bytes of the buffer are put in.
-#[derive(Clone, Copy)]
+#[derive(Clone, Copy, PartialEq, Eq)]
 pub struct Taped {
     pub left: usize,
     pub room: usize,

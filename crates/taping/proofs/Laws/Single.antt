@@ -1,9 +1,8 @@
 -- One step taped, as the code finds it at each return, and the line that it puts in.
--- Relies on what a step taped can leave and on the contracts of the steps and of the line; the proof of `tape_step` and
+-- Relies on what a step taped can leave and on the contracts of the steps; the proof of `tape_step` and
 -- the laws of Turn rely on it.
 use Rattle.model.proofs.Kit.{◌≡◌, sym, ap, ◌∙◌, Bool, true, false, List, [], ◌∷◌, ◌++◌, ℕ, ◌+◌}
-use Rattle.model.proofs.Kit.{◌-◌, ◌≤◌, ◌<◌, eq-eqb, ne_eqb, length, take, replicate, arith}
-use lib.Seq.{take-append_seam}
+use Rattle.model.proofs.Kit.{◌-◌, ◌≤◌, ◌<◌, eq-eqb, ne_eqb, length, arith}
 use Rattle.model.specs.declared.StepAnswer.{StepAnswer}
 use Rattle.model.specs.Bytes.{splice}
 use Rattle.model.specs.Figure.{Figure}
@@ -12,9 +11,6 @@ use Rattle.model.specs.Listing.{accepted}
 use Rattle.model.specs.Calls.{step_on}
 use Rattle.model.specs.Tape.{Entry, entry_text}
 use Rattle.model.specs.Told.{told}
-use Rattle.line_writer.specs.declared.line.Line.{Line}
-use Rattle.line_writer.specs.Puts.{Holds}
-use Rattle.line_writer.proofs.Rooms.{holds_room}
 use Rattle.accessing.specs.Accessed.{StepsOn}
 use Rattle.stepping.specs.Stepped.{RunsOn}
 use Rattle.tape_writer.proofs.Laws.WritingLength.{line_short}
@@ -37,16 +33,8 @@ module _ (i : ℕ) (s : Taping) where
 
 -- ---- the line that is put in
 
--- a line has the text that it holds in front
-held : (line : Line) (l : List ℕ) → Holds line l → take line.len line.bytes ≡ l
-held line l h = (λ j. take (h.len j) (h.bytes j)) ∙ take-append_seam l (replicate (512 - length l) 0)
-
-module _ (line : Line) (e : Entry) (h : Holds line (entry_text e ++ (10 ∷ []))) where
-  pub line_long : line.len ≤ 55
-  line_long = omega (arith, h.len, line_short e)
-
-  pub line_size : length line.bytes ≡ 512
-  line_size = (holds_room _ [] h (omega (arith, line_short e))).size
+pub line_long : (line : List ℕ) (e : Entry) → line ≡ entry_text e ++ (10 ∷ []) → length line ≤ 55
+line_long line e h = omega (arith, ap length h, line_short e)
 
 -- ---- the returns
 
@@ -71,16 +59,19 @@ module _ (i : ℕ) (b out : List ℕ) (t : Taped) where
     step_refused n = sym (one_refused i (taping b out t) (sym going ∙ n))
 
     pub line_put : q ≡ true → (t.room ≡ 0 → ⊥) → t.left ≤ 0
-        → (a : StepAnswer) (d : List ℕ) → StepsOn i b a d → (line : Line)
-        → Holds line (entry_text (record { station = i; report = told a }) ++ (10 ∷ []))
-        → (now : List ℕ) → now ≡ splice t.len (take line.len line.bytes) out
-        → taping d now (record { left = 0; room = t.room - 1; len = t.len + line.len })
+        → (a : StepAnswer) (d : List ℕ) → StepsOn i b a d → (line : List ℕ)
+        → line ≡ entry_text (record { station = i; report = told a }) ++ (10 ∷ [])
+        → (now : List ℕ) → now ≡ splice t.len line out
+        → (n : ℕ) → n ≡ length line
+        → taping d now (record { left = 0; room = t.room - 1; len = t.len + n })
         ≡ taped_one i (taping b out t)
     unfolding StepsOn tape_line
-    line_put y wanted none_left a d h line holds now e =
+    line_put y wanted none_left a d h line is now e n count =
         let line_is : entry_text (record { station = i; report = told a }) ++ (10 ∷ []) ≡ tape_line (entry_at i b) =
         ap (λ (r : Report Figure). entry_text (record { station = i; report = r }) ++ (10 ∷ [])) h.0 in
-        let put = e ∙ ap (λ (l : List ℕ). splice t.len l out) (held line _ holds ∙ line_is) in
-        let long = holds.len ∙ ap length line_is in
+        let put = e ∙ ap (λ (l : List ℕ). splice t.len l out) (is ∙ line_is) in
+        let long = count ∙ ap length (is ∙ line_is) in
         (λ j. taping (h.1 j) (put j) (record { left = 0; room = t.room - 1; len = t.len + long j }))
         ∙ sym (one_written i (taping b out t) wanted (sym going ∙ y) (omega arith))
+
+pub ruleset one_step = (none_wanted, counted_few, passed_over_lem, line_long, step_refused)

@@ -1,8 +1,9 @@
 -- The steps of one station taped one after another, over lent bytes and the code's numbers.
 -- Relies on one step taped and on steps taped one after another; the proof of `tape_turn` relies on it.
-use Rattle.model.proofs.Kit.{◌≡◌, refl, sym, ap, subst, ◌∙◌, Bool, true, not, List, [], ◌∷◌, ℕ, zero, suc, ◌+◌, ◌-◌}
+use Rattle.model.proofs.Kit.{◌≡◌, refl, sym, ap, subst, ◌∙◌, Bool, true, not, ◌&&◌, eqb, eqb→eq, List, [], ◌∷◌, ℕ, zero, suc, ◌+◌, ◌-◌}
 use Rattle.model.proofs.Kit.{◌≤◌, ◌<◌, length, replicate, arith}
 use borrow.Author.Tests.{not-true}
+use Rattle.model.proofs.Basics.Tests.{true-T, and_l, and_r}
 use lib.ListN.{replicate-append-replicate}
 use Rattle.model.specs.Listing.{accepted}
 use Rattle.model.specs.Calls.{step_on}
@@ -60,10 +61,13 @@ module _ (b₀ out₀ : List ℕ) (t₀ : Taped) (i : ℕ) where
       more_out = turn_more.kept.out
 
       -- a step that changed nothing: neither do those that are left
-      pub turn_over : r.left ≡ t.left → r.room ≡ t.room → (count : ℕ) → k < count
+      pub turn_over : true ≡ eqb r.left t.left && (eqb r.room t.room && eqb r.len t.len) → (count : ℕ) → k < count
           → taping d now r ≡ taped_steps (replicate count i) Begun
       unfolding taped_steps
-      turn_over l m count h =
+      turn_over same count h =
+          let q = true-T _ (sym same) in
+          let l = eqb→eq r.left t.left (and_l _ _ q) in
+          let m = eqb→eq r.room t.room (and_l _ _ (and_r (eqb r.left t.left) _ q)) in
           let whole : k + (count - k) ≡ count = omega arith in
           let still = unchanged (i ∷ []) (taping b out t) (ap (λ (s : Taping). s.left) (sym e) ∙ l)
           (ap (λ (s : Taping). s.room) (sym e) ∙ m) in
@@ -72,3 +76,5 @@ module _ (b₀ out₀ : List ℕ) (t₀ : Taped) (i : ℕ) where
           ∙ sym (steps_append (replicate k i) (replicate (count - k) i) Begun)
           ∙ ap (λ (is : List ℕ). taped_steps is Begun) (replicate-append-replicate k (count - k) i
           ∙ ap (λ (n : ℕ). replicate n i) whole)
+
+pub ruleset turning = (turn_refused, turn_ready, turn_board, turn_out, turn_ended, more_board, more_out)
