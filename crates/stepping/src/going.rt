@@ -12,14 +12,14 @@ use model::refusal::Refusal;
 use soundness::place::{Place, station_place};
 
 // Whether a step is taken in this phase.
-pub fn goes_on(phase: u8) -> bool
+pub(crate) fn goes_on(phase: u8) -> bool
     ensures { IsTrue result ↔ ((1 ≤ phase) × (phase ≤ 6)) }
 {
     matches!(phase, WRITE_M..=READ_B)
 }
 
 #[tactic(auto, using(crate::proofs::Laws::Going::finding))]
-pub fn going_place(board: &[u8], station: u8) -> Result<Place, Refusal>
+pub(crate) fn going_place(board: &[u8], station: u8) -> Result<Place, Refusal>
     requires { board_refusal board.now none ≡ none }
     ensures { Goes station board.now result }
 {

@@ -15,7 +15,7 @@ use model::refusal::Refusal;
 use soundness::place::Place;
 
 // A refusal as the answer of a step.
-pub fn refused(refusal: Refusal) -> StepAnswer
+pub(crate) fn refused(refusal: Refusal) -> StepAnswer
     ensures { result ≡ StepAnswer.Refused (number refusal) }
 {
     StepAnswer::Refused {

@@ -51,7 +51,6 @@ ran_then b is d js e r q = record {
 pub ran_sound : (b is d : List ℕ) → Ran b is d → board_refusal d none ≡ none
 ran_sound b is d r = r.sound
 
-
 -- ---- one step of the station with a number, counted
 
 module _ (s : ℕ) (b : List ℕ) where
