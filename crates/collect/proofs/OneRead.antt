@@ -1,14 +1,16 @@
--- One read of a collect on a record's fields: what each branch of `see_m`, `see_a` and `see_b` leaves is what the
+-- One read of a collect on a record's fields: what each branch of `see_m` and `see_a` leaves is what the
 -- listing's `see` gives. Relies on Collected and the listing; the proofs of src/lib.rt and of the reads rely on it.
 use Rattle.model.proofs.Kit.{◌≡◌, refl, sym, ap, ◌∙◌, Bool, true, false, cond, ℕ, zero, suc}
 use Rattle.model.specs.declared.Record.{Record}
 use Rattle.model.specs.declared.Register as Fields
+use Rattle.collect.specs.declared.Turn as Coded
+use Rattle.collect.specs.declared.Turn.TheVariants.{M, A}
 use Rattle.model.specs.Figure.{Figure, figures, same_figure}
 use Rattle.model.specs.Listing.{Flag, Turn, turn_m, turn_a, first, second, Seen, seen}
 use Rattle.model.specs.Listing.{Register, filled, larger, pair_above, add, see, flag_of}
 use Rattle.model.specs.Layout.{seen_number, best_island, best_figure, seen_of, register_value, changed}
 use Rattle.model.proofs.Board.Codec.{marked_by, seen_back}
-use Rattle.collect.specs.Collected.{collected, noting, with_seen, Kept, seeing}
+use Rattle.collect.specs.Collected.{collected, noting, with_seen, Kept, seeing, turn_of, AddsM, AddsA}
 
 -- ---- the seen fields
 
@@ -90,13 +92,9 @@ module _ (t : Turn) (f : Record) (fl : Flag) (k : ℕ) (y : Figure) (s : ℕ) (e
 
 -- ---- m
 
-pub m_first : (f r : Record) (g : Fields.Register) (y : Figure) → (g.mark ≡ 0 → ⊥) → f.seen ≡ 0
-    → r ≡ noting f 1 g.island y → y ≡ g.figure
-    → r ≡ seeing turn_m f g
-unfolding seen_of add with_seen seen_number best_island best_figure
-m_first f r g y h e q z =
-    q ∙ ap (noting f 1 g.island) z ∙ added turn_m f (flag_of g.mark) g.island g.figure 0 e
-    ∙ sym (see_filled turn_m f g h)
+pub m_first : (f r : Record) (k : ℕ) (y z : Figure) → f.seen ≡ 0 → r ≡ noting f 1 k z → z ≡ y → AddsM f k y r
+unfolding AddsM seen_of add with_seen seen_number best_island best_figure
+m_first f r k y z e q l d = q ∙ ap (noting f 1 k) l ∙ added turn_m f d k y 0 e
 
 m_add : (s j k : ℕ) (x y : Figure) (fl : Flag) → (s ≡ 0 → ⊥)
     → add figures turn_m (seen_of s j x) fl k y ≡ cond (pair_above figures k y j x) (seen_of s k y) (seen_of s j x)
@@ -106,65 +104,70 @@ m_add (suc zero) j k x y fl h = refl
 m_add (suc (suc zero)) j k x y fl h = refl
 m_add (suc (suc (suc s))) j k x y fl h = refl
 
-module _ (f : Record) (g : Fields.Register) (kept : Kept f) (h : g.mark ≡ 0 → ⊥) (n : f.seen ≡ 0 → ⊥) where
-  m_chosen : (b : Bool) → pair_above figures g.island g.figure f.highest f.best ≡ b
-      → seeing turn_m f g ≡ with_seen f (cond b (seen_of f.seen g.island g.figure) (collected f))
+module _ (f : Record) (k : ℕ) (y : Figure) (kept : Kept f) (n : f.seen ≡ 0 → ⊥) where
+  m_chosen : (b : Bool) (d : Flag) → pair_above figures k y f.highest f.best ≡ b
+      → with_seen f (add figures turn_m (collected f) d k y) ≡ with_seen f (cond b (seen_of f.seen k y) (collected f))
   unfolding collected
-  m_chosen b e =
-      see_filled turn_m f g h
-      ∙ ap (with_seen f) (m_add f.seen f.highest g.island f.best g.figure (flag_of g.mark) n)
-      ∙ ap (λ (b : Bool). with_seen f (cond b (seen_of f.seen g.island g.figure) (collected f))) e
+  m_chosen b d e =
+      ap (with_seen f) (m_add f.seen f.highest k f.best y d n)
+      ∙ ap (λ (b : Bool). with_seen f (cond b (seen_of f.seen k y) (collected f))) e
 
-  pub m_above : (r : Record) (y : Figure) → pair_above figures g.island g.figure f.highest f.best ≡ true
-      → r ≡ noting f f.seen g.island y → y ≡ g.figure → r ≡ seeing turn_m f g
-  m_above r y e q z =
-      q ∙ ap (noting f f.seen g.island) z ∙ regraded f kept n g.island g.figure ∙ sym (m_chosen true e)
+  pub m_above : (r : Record) (z : Figure) → pair_above figures k y f.highest f.best ≡ true → r ≡ noting f f.seen k z
+      → z ≡ y → AddsM f k y r
+  unfolding AddsM
+  m_above r z e q l d = q ∙ ap (noting f f.seen k) l ∙ regraded f kept n k y ∙ sym (m_chosen true d e)
 
-  pub m_below : pair_above figures g.island g.figure f.highest f.best ≡ false → f ≡ seeing turn_m f g
-  unfolding Kept
-  m_below e = sym kept ∙ sym (m_chosen false e)
+  pub m_below : pair_above figures k y f.highest f.best ≡ false → AddsM f k y f
+  unfolding AddsM Kept
+  m_below e d = sym kept ∙ sym (m_chosen false d e)
 
 -- ---- A
 
-pub a_first : (f r : Record) (g : Fields.Register) (y : Figure) → (g.mark ≡ 0 → ⊥) → f.seen ≡ 0 → r ≡ noting f 1 0 y
-    → y ≡ g.figure
-    → r ≡ seeing turn_a f g
-unfolding seen_of add with_seen seen_number best_island best_figure
-a_first f r g y h e q z =
-    q ∙ ap (noting f 1 0) z ∙ added turn_a f (flag_of g.mark) g.island g.figure 0 e
-    ∙ sym (see_filled turn_a f g h)
+pub a_first : (f r : Record) (y z : Figure) → f.seen ≡ 0 → r ≡ noting f 1 0 z → z ≡ y → AddsA f y r
+unfolding AddsA seen_of add with_seen seen_number best_island best_figure
+a_first f r y z e q l d k = q ∙ ap (noting f 1 0) l ∙ added turn_a f d k y 0 e
 
-module _ (f r : Record) (g : Fields.Register) (y : Figure) (h : g.mark ≡ 0 → ⊥)
-    (z : y ≡ larger figures f.best g.figure) where
-  a_one : (b : Bool) → f.seen ≡ 1 → same_figure f.best g.figure ≡ b
-      → with_seen f (seen (cond b first second) f.highest y) ≡ seeing turn_a f g
-  unfolding seen_of add figures
-  a_one b e d =
-      (λ i. with_seen f (seen (cond (sym d i) first second) f.highest (z i)))
-      ∙ added turn_a f (flag_of g.mark) g.island g.figure 1 e ∙ sym (see_filled turn_a f g h)
+a_add : (s : ℕ) → (s ≡ 0 → ⊥) → (s ≡ 1 → ⊥) → (j k : ℕ) (x v : Figure) (fl : Flag)
+    → add figures turn_a (seen_of s j x) fl k v ≡ seen_of s j (larger figures x v)
+unfolding seen_of add
+a_add zero n m j k x v fl = absurd (n refl)
+a_add (suc zero) n m j k x v fl = absurd (m refl)
+a_add (suc (suc zero)) n m j k x v fl = refl
+a_add (suc (suc (suc s))) n m j k x v fl = refl
 
-  pub a_same : f.seen ≡ 1 → same_figure f.best g.figure ≡ true → r ≡ noting f 1 f.highest y
-      → r ≡ seeing turn_a f g
-  unfolding with_seen seen_number best_island best_figure
-  a_same e d q = q ∙ a_one true e d
+module _ (f r : Record) (y z : Figure) (l : z ≡ larger figures f.best y) where
+  a_one : (b : Bool) → f.seen ≡ 1 → same_figure f.best y ≡ b
+      → AddsA f y (with_seen f (seen (cond b first second) f.highest z))
+  unfolding AddsA seen_of add figures
+  a_one b e h d k =
+      (λ i. with_seen f (seen (cond (sym h i) first second) f.highest (l i))) ∙ added turn_a f d k y 1 e
 
-  pub a_differs : f.seen ≡ 1 → same_figure f.best g.figure ≡ false → r ≡ noting f 2 f.highest y
-      → r ≡ seeing turn_a f g
-  unfolding with_seen seen_number best_island best_figure
-  a_differs e d q = q ∙ a_one false e d
+  pub a_same : f.seen ≡ 1 → same_figure f.best y ≡ true → r ≡ noting f f.seen f.highest z → AddsA f y r
+  unfolding AddsA with_seen seen_number best_island best_figure
+  a_same e h q d k = q ∙ ap (λ (s : ℕ). noting f s f.highest z) e ∙ a_one true e h d k
 
-  a_add : (s : ℕ) → (s ≡ 0 → ⊥) → (s ≡ 1 → ⊥) → (j k : ℕ) (x v : Figure) (fl : Flag)
-      → add figures turn_a (seen_of s j x) fl k v ≡ seen_of s j (larger figures x v)
-  unfolding seen_of add
-  a_add zero n m j k x v fl = absurd (n refl)
-  a_add (suc zero) n m j k x v fl = absurd (m refl)
-  a_add (suc (suc zero)) n m j k x v fl = refl
-  a_add (suc (suc (suc s))) n m j k x v fl = refl
+  pub a_differs : f.seen ≡ 1 → same_figure f.best y ≡ false → r ≡ noting f 2 f.highest z → AddsA f y r
+  unfolding AddsA with_seen seen_number best_island best_figure
+  a_differs e h q d k = q ∙ a_one false e h d k
 
-  pub a_mixed : Kept f → (f.seen ≡ 0 → ⊥) → (f.seen ≡ 1 → ⊥) → r ≡ noting f f.seen f.highest y
-      → r ≡ seeing turn_a f g
-  unfolding collected
-  a_mixed kept n m q =
-      q ∙ ap (noting f f.seen f.highest) z ∙ regraded f kept n f.highest (larger figures f.best g.figure)
-      ∙ ap (with_seen f) (sym (a_add f.seen n m f.highest g.island f.best g.figure (flag_of g.mark)))
-      ∙ sym (see_filled turn_a f g h)
+  pub a_mixed : Kept f → (f.seen ≡ 0 → ⊥) → (f.seen ≡ 1 → ⊥) → r ≡ noting f f.seen f.highest z → AddsA f y r
+  unfolding AddsA collected
+  a_mixed kept n m q d k =
+      q ∙ ap (noting f f.seen f.highest) l ∙ regraded f kept n f.highest (larger figures f.best y)
+      ∙ ap (with_seen f) (sym (a_add f.seen n m f.highest k f.best y d))
+
+-- ---- a register of m or A
+
+module _ (f r : Record) (g : Fields.Register) (z : Figure) (h : g.mark ≡ 0 → ⊥) (l : z ≡ g.figure) where
+  pub read_m : (t : Coded.Turn) → t ≡ M → AddsM f g.island z r → (e : Flag) → r ≡ seeing (turn_of t e) f g
+  unfolding AddsM turn_of
+  read_m t q a e =
+      a (flag_of g.mark) ∙ ap (λ (y : Figure). with_seen f (add figures turn_m (collected f) (flag_of g.mark) g.island y)) l
+      ∙ sym (see_filled turn_m f g h) ∙ ap (λ (u : Coded.Turn). seeing (turn_of u e) f g) (sym q)
+
+  pub read_a : (t : Coded.Turn) → t ≡ A → AddsA f z r → (e : Flag) → r ≡ seeing (turn_of t e) f g
+  unfolding AddsA turn_of
+  read_a t q a e =
+      a (flag_of g.mark) g.island
+      ∙ ap (λ (y : Figure). with_seen f (add figures turn_a (collected f) (flag_of g.mark) g.island y)) l
+      ∙ sym (see_filled turn_a f g h) ∙ ap (λ (u : Coded.Turn). seeing (turn_of u e) f g) (sym q)

@@ -1,13 +1,15 @@
--- One read of a collect of B: what each branch of `see_b`, `see_adopt` and `see_commit` leaves is what the listing's
--- `see` gives. Relies on OneRead; the proofs of those three functions rely on it.
+-- One read of a collect of B: what each branch of `see_adopt` and `see_commit` leaves is what the listing's
+-- `see` gives. Relies on OneRead; the proofs of these two and of `see` rely on it.
 use Rattle.model.proofs.Kit.{◌≡◌, refl, sym, ap, ◌∙◌, Bool, true, false, cond, ℕ, zero, suc}
 use Rattle.model.specs.declared.Record.{Record}
 use Rattle.model.specs.declared.Register as Fields
+use Rattle.collect.specs.declared.Turn as Coded
+use Rattle.collect.specs.declared.Turn.TheVariants.{B}
 use Rattle.model.specs.Figure.{Figure, figures, same_figure}
 use Rattle.model.specs.Listing.{Flag, adopt, commit, turn_b, first, second, third, Seen, nothing, seen, larger, add}
 use Rattle.model.specs.Listing.{flag_of}
 use Rattle.model.specs.Layout.{seen_number, best_island, best_figure, seen_of}
-use Rattle.collect.specs.Collected.{collected, noting, with_seen, Kept, seeing, Adds}
+use Rattle.collect.specs.Collected.{collected, noting, with_seen, Kept, seeing, turn_of, Adds}
 use Rattle.collect.proofs.OneRead.{at_seen, added, see_filled}
 
 -- ---- an adopt
@@ -91,17 +93,19 @@ island_free (seen second j x) commit e k y = refl
 island_free (seen third j x) d e k y = refl
 
 module _ (f r : Record) (g : Fields.Register) (z : Figure) (h : g.mark ≡ 0 → ⊥) (l : z ≡ g.figure) where
-  of_flag : (d : Flag) → flag_of g.mark ≡ d → Adds d f z r → (e : Flag) → r ≡ seeing (turn_b e) f g
-  unfolding Adds
-  of_flag d q a e =
+  of_flag : (t : Coded.Turn) (d : Flag) → t ≡ B → flag_of g.mark ≡ d → Adds d f z r → (e : Flag)
+      → r ≡ seeing (turn_of t e) f g
+  unfolding Adds turn_of
+  of_flag t d u q a e =
       a e
       ∙ ap (with_seen f) (island_free (collected f) d e g.island z)
       ∙ (λ i. with_seen f (add figures (turn_b e) (collected f) (sym q i) g.island (l i)))
-      ∙ sym (see_filled (turn_b e) f g h)
+      ∙ sym (see_filled (turn_b e) f g h) ∙ ap (λ (v : Coded.Turn). seeing (turn_of v e) f g) (sym u)
 
-  pub read_adopt : g.mark ≡ 1 → Adds adopt f z r → (e : Flag) → r ≡ seeing (turn_b e) f g
+  pub read_adopt : (t : Coded.Turn) → t ≡ B → g.mark ≡ 1 → Adds adopt f z r → (e : Flag) → r ≡ seeing (turn_of t e) f g
   unfolding flag_of
-  read_adopt q = of_flag adopt (ap flag_of q)
+  read_adopt t u q = of_flag t adopt u (ap flag_of q)
 
-  pub read_commit : (g.mark ≡ 1 → ⊥) → Adds commit f z r → (e : Flag) → r ≡ seeing (turn_b e) f g
-  read_commit q = of_flag commit (flag_commit g.mark h q)
+  pub read_commit : (t : Coded.Turn) → t ≡ B → (g.mark ≡ 1 → ⊥) → Adds commit f z r → (e : Flag)
+      → r ≡ seeing (turn_of t e) f g
+  read_commit t u q = of_flag t commit u (flag_commit g.mark h q)

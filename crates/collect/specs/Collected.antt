@@ -3,8 +3,10 @@
 use Rattle.std.specs.Prelude.{◌≡◌, [], ◌∷◌, ℕ}
 use Rattle.model.specs.declared.Record.{Record}
 use Rattle.model.specs.declared.Register as Fields
+use Rattle.collect.specs.declared.Turn as Coded
+use Rattle.collect.specs.declared.Turn.TheVariants.{M, A, B}
 use Rattle.model.specs.Figure.{Figure, figures}
-use Rattle.model.specs.Listing.{Flag, Turn, turn_b, Seen, nothing, seen, third, add, see}
+use Rattle.model.specs.Listing.{Flag, Turn, turn_m, turn_a, turn_b, Seen, nothing, seen, third, add, see}
 use Rattle.model.specs.Layout.{seen_number, best_island, best_figure, seen_of, register_value, changed, seen_is, highest_is}
 use Rattle.model.specs.Layout.{best_is}
 
@@ -24,6 +26,19 @@ Kept f = with_seen f (collected f) ≡ f
 -- a record after one more register was read
 unfoldable pub seeing : Turn → Record → Fields.Register → Record
 seeing t f g = with_seen f (see figures t (collected f) (register_value g))
+
+-- the turn of the listing, which in B knows the flag f that the station itself wrote
+unfoldable pub turn_of : Coded.Turn → (f : Flag) → Turn
+turn_of M f = turn_m
+turn_of A f = turn_a
+turn_of B f = turn_b f
+
+-- the record r is f after one more entry of m, with island k and figure y, and after one more of A
+unfoldable pub AddsM : (f : Record) (k : ℕ) (y : Figure) (r : Record) → Type 0
+AddsM f k y r = (d : Flag) → r ≡ with_seen f (add figures turn_m (collected f) d k y)
+
+unfoldable pub AddsA : (f : Record) (y : Figure) (r : Record) → Type 0
+AddsA f y r = (d : Flag) (k : ℕ) → r ≡ with_seen f (add figures turn_a (collected f) d k y)
 
 -- the record r is f after one more entry of B, with flag d and figure y; the flag e that
 -- the station itself wrote does not matter

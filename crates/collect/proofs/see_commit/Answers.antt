@@ -1,25 +1,20 @@
 -- `see_commit` meets its contract: each return is a law of ReadB.
-use Rattle.std.proofs.Common.{rules}
 use Rattle.model.proofs.Basics.Numbers.{landed}
-use Rattle.collect.proofs.Handed.{Handed, same_told}
+use Rattle.collect.proofs.Handed.{same_bits_told, other_bits_told}
 use Rattle.collect.proofs.ReadB.{commit_first, commit_beside, commit_same, commit_differs, third_stays}
 use Rattle.collect.proofs.see_commit.Goals as goal
-use Rattle.collect.proofs.see_commit.Goals.{Start}
 
-figures : (c : Start) → Handed c.args.station.best × Handed c.args.figure
-figures c = (landed _ (search), landed _ (search rules))
+pub returns-in-0 : goal.returns-in-0
+returns-in-0 c = search (landed, commit_first)
 
-pub returns-then-station-eq0 : goal.returns-then-station-eq0
-returns-then-station-eq0 c = search (commit_first, rules)
+pub returns-in-1 : goal.returns-in-1
+returns-in-1 c = search (landed, commit_beside)
 
-pub returns-then-station-eq1 : goal.returns-then-station-eq1
-returns-then-station-eq1 c = search (commit_beside, rules)
+pub returns-in-2 : goal.returns-in-2
+returns-in-2 c = search (landed, other_bits_told, commit_differs)
 
-pub returns-then-same : goal.returns-then-same
-returns-then-same c = let given = figures (search) in search (same_told, commit_same)
+pub returns-in_default : goal.returns-in_default
+returns-in_default c = search (same_bits_told, commit_same)
 
-pub returns-then-station-eq2 : goal.returns-then-station-eq2
-returns-then-station-eq2 c = let given = figures (search) in search (same_told, commit_differs)
-
-pub returns : goal.returns
-returns c = search third_stays
+pub returns-in_default-2 : goal.returns-in_default-2
+returns-in_default-2 c = search third_stays

@@ -1,4 +1,4 @@
--- Numbers of two bytes: read where they stand, and laid.
+-- Numbers of two bytes, read where they stand.
 -- Relies on the form of two bytes at a place; the functions' proofs rely on it.
 use Rattle.model.proofs.Kit.{◌≡◌, sym, ap, ◌∙◌, List, ℕ, ◌+◌, ◌≤◌, ◌*◌, length, arith}
 use Rattle.model.specs.Bytes.{byte, number, part}
