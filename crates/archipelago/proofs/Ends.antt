@@ -1,10 +1,11 @@
--- The ends of a collect on a record's fields: what each branch of `finish_m`, `finish_a`, `finish_b` and `onward`
--- returns is the listing's move. Relies on Collected, Advanced and the listing; the proofs of src/finish.rt rely on it.
-use Rattle.model.proofs.Kit.{◌≡◌, refl, sym, ap, subst, ◌∙◌, Bool, true, false, ℕ, zero, suc, ◌+◌, ◌≤◌, ◌<◌, lt-ltb}
-use Rattle.model.proofs.Kit.{le-ltb, eqb-true, eqb-false, eqb, arith}
+-- The ends of a collect on a record's fields: what each branch of `finish` and `onward` returns is the listing's move. Relies on Collected, Advanced and the listing; the proofs of src/finish.rt rely on it.
+use Rattle.model.proofs.Kit.{◌≡◌, refl, sym, ap, subst, ◌∙◌, Bool, cond, ℕ, zero, suc, ◌+◌, ◌≤◌, ◌<◌, lt-ltb}
+use Rattle.model.proofs.Kit.{le-ltb, eqb, arith}
 use Rattle.model.specs.declared.Record.{Record}
 use Rattle.model.specs.declared.StepAnswer.{StepAnswer}
 use Rattle.model.specs.declared.StepAnswer.TheVariants.{Went, Marked, Adopted, Decided, Spent}
+use Rattle.collect.specs.declared.Turn as Coded
+use Rattle.collect.specs.declared.Turn.TheVariants.{M, A, B}
 use Rattle.model.specs.Figure.{Figure}
 use Rattle.model.specs.Listing.{Flag, turn_m, turn_a, turn_b, first, second, third, Seen, nothing, seen, Move, Stage}
 use Rattle.model.specs.Listing.{writing, reading, has_decided, is_spent, active, stay, onward, finish, ended}
@@ -14,8 +15,8 @@ use Rattle.model.specs.Listing.{flag_number}
 use Rattle.model.specs.Filled.{reported}
 use Rattle.model.specs.Told.{told}
 use Rattle.archipelago.specs.declared.Moved.{Moved}
-use Rattle.collect.specs.Collected.{collected, noting, with_seen, Kept, ended_seen}
-use Rattle.archipelago.specs.Advanced.{Advanced, Finishes, Written, decision, staying}
+use Rattle.collect.specs.Collected.{collected, noting, with_seen, Kept, ended_seen, turn_of}
+use Rattle.archipelago.specs.Advanced.{Advanced, Finishes, Written, decision, staying, begins, marks}
 
 -- ---- `ended`
 
@@ -41,10 +42,6 @@ ended_seen_lem f kept h =
 
 -- ---- the listing's moves at the end of a collect that saw a, c and x being the station's own pair
 
--- a result that begins a phase and writes nothing
-unfoldable pub begins : (phase island flag : ℕ) → Record → Figure → StepAnswer → Moved
-begins phase island flag f y a = staying (fields phase 0 island nothing flag f.proposal y f) a
-
 module _ (K : ℕ) (f : Record) (c : ℕ) (x : Figure) where
   island_at_lem : Seen Figure → ℕ
   island_at_lem a = best_island (ended_seen c x a)
@@ -62,23 +59,15 @@ module _ (K : ℕ) (f : Record) (c : ℕ) (x : Figure) where
   end_m nothing = record { station = refl; written = refl; answer = refl }
   end_m (seen g k y) = record { station = refl; written = refl; answer = refl }
 
-  end_commit : (a : Seen Figure) → number_at a ≡ 1
-      → Advanced f (ended K turn_a c x a) (begins 5 c 2 f (figure_at_lem a) (Marked 2 0 (figure_at_lem a)))
+  end_a : (a : Seen Figure)
+      → let flag : ℕ = cond (eqb (number_at a) 1) 2 1 in
+      Advanced f (ended K turn_a c x a) (begins 5 c flag f (figure_at_lem a) (Marked flag 0 (figure_at_lem a)))
   unfolding figure_at_lem number_at ended_seen seen_number best_figure ended finish stay begins staying Written told reported
       record_fields write_phase flag_byte flag_number
-  end_commit nothing e = absurd (omega arith)
-  end_commit (seen first k y) e = record { station = refl; written = refl; answer = refl }
-  end_commit (seen second k y) e = absurd (omega arith)
-  end_commit (seen third k y) e = absurd (omega arith)
-
-  end_adopt : (a : Seen Figure) → (number_at a ≡ 1 → ⊥)
-      → Advanced f (ended K turn_a c x a) (begins 5 c 1 f (figure_at_lem a) (Marked 1 0 (figure_at_lem a)))
-  unfolding figure_at_lem number_at ended_seen seen_number best_figure ended finish stay begins staying Written told reported
-      record_fields write_phase flag_byte flag_number
-  end_adopt nothing e = record { station = refl; written = refl; answer = refl }
-  end_adopt (seen first k y) e = absurd (e refl)
-  end_adopt (seen second k y) e = record { station = refl; written = refl; answer = refl }
-  end_adopt (seen third k y) e = record { station = refl; written = refl; answer = refl }
+  end_a nothing = record { station = refl; written = refl; answer = refl }
+  end_a (seen first k y) = record { station = refl; written = refl; answer = refl }
+  end_a (seen second k y) = record { station = refl; written = refl; answer = refl }
+  end_a (seen third k y) = record { station = refl; written = refl; answer = refl }
 
   end_decided : (e : Flag) (a : Seen Figure) → number_at a ≡ 2 → decision c (figure_at_lem a) ≡ ended K (turn_b e) c x a
   unfolding figure_at_lem number_at ended_seen seen_number best_figure ended finish decision
@@ -96,8 +85,14 @@ module _ (K : ℕ) (f : Record) (c : ℕ) (x : Figure) where
 
 -- ---- the same for what the functions return
 
+-- a mark is laid with the flag of its test
+pub marks_is : (f : Record) (flag : ℕ) (t : Bool) (r : Moved) → flag ≡ cond t 2 1
+    → r ≡ begins 5 f.island flag f f.best (Marked flag 0 f.best) → r ≡ marks f t
+unfolding marks
+marks_is f flag t r e q = q ∙ ap (λ (flag : ℕ). begins 5 f.island flag f f.best (Marked flag 0 f.best)) e
+
 -- a figure y goes through the machine by its bits, whose number is w, into the record and into the answer
-begun : (phase island flag : ℕ) (f : Record) (y w : Figure) (answer : Figure → StepAnswer) (next : Record) (r : Moved)
+pub begun : (phase island flag : ℕ) (f : Record) (y w : Figure) (answer : Figure → StepAnswer) (next : Record) (r : Moved)
     → w ≡ y → next ≡ fields phase 0 island nothing flag f.proposal w f → r ≡ staying next (answer w)
     → r ≡ begins phase island flag f y (answer y)
 unfolding begins
@@ -153,38 +148,28 @@ over_seen f a m r h = record {
   answer = h.answer;
 }
 
+of_turn : (K : ℕ) (f : Record) (r : Moved) (t u : Coded.Turn) (e : Flag) → t ≡ u → Finishes (turn_of u e) K f r
+    → Finishes (turn_of t e) K f r
+of_turn K f r t u e v h = subst (λ (t : Coded.Turn). Finishes (turn_of t e) K f r) (sym v) h
+
+module _ (K : ℕ) (f last : Record) (r : Moved) (l : last ≡ with_seen f (ended_seen f.island f.carried (collected f))) where
+  pub went_lem : (t : Coded.Turn) → t ≡ M → r ≡ begins 3 last.highest 0 last last.best (Went last.highest 0 last.best)
+      → (e : Flag) → Finishes (turn_of t e) K f r
+  unfolding Finishes begins fields with_seen noting changed island_at_lem figure_at_lem turn_of
+  went_lem t v q e =
+      of_turn K f r t M e v
+      (subst (Advanced _ _) (sym (q ∙ ap (λ (g : Record). begins 3 g.highest 0 g g.best (Went g.highest 0 g.best)) l))
+      (end_m K _ _ _ (collected f)))
+
+  pub marked_lem : (t : Coded.Turn) → t ≡ A → r ≡ marks last (eqb last.seen 1) → (e : Flag) → Finishes (turn_of t e) K f r
+  unfolding Finishes marks begins fields with_seen noting changed figure_at_lem number_at turn_of
+  marked_lem t v q e =
+      of_turn K f r t A e v
+      (subst (Advanced _ _) (sym (q ∙ ap (λ (g : Record). marks g (eqb g.seen 1)) l)) (end_a K _ _ _ (collected f)))
+
 module _ (K : ℕ) (f last : Record) (w : Figure) (r : Moved)
     (l : last ≡ with_seen f (ended_seen f.island f.carried (collected f)))
     (u : w ≡ last.best) where
-  pub went : (next : Record) → next ≡ fields 3 0 last.highest nothing 0 last.proposal w last
-      → r ≡ staying next (Went last.highest 0 w) → Finishes turn_m K f r
-  unfolding Finishes begins fields with_seen noting changed island_at_lem figure_at_lem
-  went next p q =
-      subst (Advanced _ _)
-      (sym (begun 3 last.highest 0 last last.best w (Went last.highest 0) next r u p q
-      ∙ ap (λ (g : Record). begins 3 g.highest 0 g g.best (Went g.highest 0 g.best)) l))
-      (end_m K _ _ _ (collected f))
-
-  pub committed : (t : Bool) (next : Record) → t ≡ eqb last.seen 1 → t ≡ true
-      → next ≡ fields 5 0 last.island nothing 2 last.proposal w last → r ≡ staying next (Marked 2 0 w)
-      → Finishes turn_a K f r
-  unfolding Finishes begins fields with_seen noting changed figure_at_lem number_at
-  committed t next d e p q =
-      subst (Advanced _ _)
-      (sym (begun 5 last.island 2 last last.best w (Marked 2 0) next r u p q
-      ∙ ap (λ (g : Record). begins 5 g.island 2 g g.best (Marked 2 0 g.best)) l))
-      (end_commit K _ _ _ (collected f) (ap (λ (g : Record). g.seen) (sym l) ∙ eqb-true _ _ (sym d ∙ e)))
-
-  pub not_committed : (t : Bool) (next : Record) → t ≡ eqb last.seen 1 → t ≡ false
-      → next ≡ fields 5 0 last.island nothing 1 last.proposal w last → r ≡ staying next (Marked 1 0 w)
-      → Finishes turn_a K f r
-  unfolding Finishes begins fields with_seen noting changed figure_at_lem number_at
-  not_committed t next d e p q =
-      subst (Advanced _ _)
-      (sym (begun 5 last.island 1 last last.best w (Marked 1 0) next r u p q
-      ∙ ap (λ (g : Record). begins 5 g.island 1 g g.best (Marked 1 0 g.best)) l))
-      (end_adopt K _ _ _ (collected f) (λ s. eqb-false _ _ (sym d ∙ e) (ap (λ (g : Record). g.seen) l ∙ s)))
-
   -- the collect of B: both ways go on from the last record and its best figure
   of_last : (e : Flag) (m : ℕ → Figure → Move Figure)
       → m f.island (figure_at_lem K f f.island f.carried (collected f))
@@ -196,12 +181,16 @@ module _ (K : ℕ) (f last : Record) (w : Figure) (r : Moved)
       (over_seen f _ _ r (subst (λ (g : Record). Advanced g (m g.island g.best) r) l
       (subst (λ (x : Figure). Advanced last (m last.island x) r) u a)))
 
-  pub settled : (e : Flag) → last.seen ≡ 2 → Advanced last (decision last.island w) r → Finishes (turn_b e) K f r
-  unfolding Finishes with_seen noting changed number_at
-  settled e n a = of_last e decision (end_decided K _ _ _ e (collected f) (ap (λ (g : Record). g.seen) (sym l) ∙ n)) a
+  pub settled : (t : Coded.Turn) → t ≡ B → last.seen ≡ 2 → Advanced last (decision last.island w) r → (e : Flag)
+      → Finishes (turn_of t e) K f r
+  unfolding Finishes with_seen noting changed number_at turn_of
+  settled t v n a e =
+      of_turn K f r t B e v
+      (of_last e decision (end_decided K _ _ _ e (collected f) (ap (λ (g : Record). g.seen) (sym l) ∙ n)) a)
 
-  pub went_on : (e : Flag) → (last.seen ≡ 2 → ⊥) → Advanced last (onward K last.island w) r
-      → Finishes (turn_b e) K f r
-  unfolding Finishes with_seen noting changed number_at
-  went_on e n a =
-      of_last e (onward K) (end_onward K _ _ _ e (collected f) (λ s. n (ap (λ (g : Record). g.seen) l ∙ s))) a
+  pub went_on : (t : Coded.Turn) → t ≡ B → (last.seen ≡ 2 → ⊥) → Advanced last (onward K last.island w) r → (e : Flag)
+      → Finishes (turn_of t e) K f r
+  unfolding Finishes with_seen noting changed number_at turn_of
+  went_on t v n a e =
+      of_turn K f r t B e v
+      (of_last e (onward K) (end_onward K _ _ _ e (collected f) (λ s. n (ap (λ (g : Record). g.seen) l ∙ s))) a)

@@ -2,6 +2,7 @@
 -- listing's move. Relies on OneRead and Ends; the proofs of src/lib.rt rely on it.
 use Rattle.model.proofs.Kit.{◌≡◌, refl, sym, ap, subst, ◌∙◌, Bool, true, false, [], ◌∷◌, ℕ, ◌+◌, ◌≤◌, ◌<◌, ltb, w8}
 use Rattle.model.proofs.Kit.{Fits, arith}
+use Rattle.std.specs.Prelude.{Some}
 use Rattle.model.specs.declared.Record.{Record}
 use Rattle.model.specs.declared.Register as Fields
 use Rattle.model.specs.declared.StepAnswer.TheVariants.{Read}
@@ -84,7 +85,7 @@ wrote t n K f g mark island r e w q =
     subst (Advanced _ _) (sym q)
     (record {
       station = ap (λ (z : Record). changed (phase_is (z.phase + 1) ∷ []) z) (sym e);
-      written = (refl, sym w);
+      written = ap (λ (o : Fields.Register). Some o) (sym w);
       answer = refl;
     })
 

@@ -1,14 +1,14 @@
 -- What `advance` asks of a record and what its result says of the listing's move.
 -- Relies on the model's listing and layout; the contracts of `advance`, of the reads and of the ends rely on it.
-use Rattle.std.specs.Prelude.{◌≡◌, true, false, [], ◌∷◌, ℕ, ◌+◌, ◌≤◌, ◌<◌, pos}
+use Rattle.std.specs.Prelude.{◌≡◌, Bool, false, cond, [], ◌∷◌, ℕ, ◌+◌, ◌≤◌, ◌<◌, Some, None}
 use Rattle.std.proofs.Math.Option.{Option, none, some}
 use Rattle.model.specs.declared.Record.{Record}
 use Rattle.model.specs.declared.Register as Fields
 use Rattle.model.specs.declared.StepAnswer.{StepAnswer}
-use Rattle.model.specs.declared.StepAnswer.TheVariants.{Wrote, Read}
+use Rattle.model.specs.declared.StepAnswer.TheVariants.{Wrote, Read, Marked}
 use Rattle.model.specs.Figure.{Figure, figures}
-use Rattle.model.specs.Listing.{Turn, Stage, reading, has_decided, active, decided, stay, ended, Register, Move, move}
-use Rattle.model.specs.Layout.{record_fields, record_value, register_fields, register_value, changed, phase_is, position_is}
+use Rattle.model.specs.Listing.{Turn, Stage, nothing, reading, has_decided, active, decided, stay, ended, Register, Move, move}
+use Rattle.model.specs.Layout.{record_fields, record_value, register_fields, register_value, fields, changed, phase_is, position_is}
 use Rattle.model.specs.Filled.{report}
 use Rattle.model.specs.Told.{told}
 use Rattle.archipelago.specs.declared.Moved.{Moved}
@@ -30,8 +30,8 @@ pub record Reads (t : Turn) (n : ℕ) (f : Record) : Type 0 where
 
 -- what is written: nothing, or the fields of the register
 unfoldable pub Written : Option (Register Figure) → Moved → Type 0
-Written none r = r.writes ≡ false
-Written (some w) r = (r.writes ≡ true) × (r.register ≡ register_fields w)
+Written none r = r.written ≡ None
+Written (some w) r = r.written ≡ Some (register_fields w)
 
 -- The result r is the move m of the station with the record f. A move knows nothing of filled registers: it answers as
 -- if it had met none, and the step puts in what was met.
@@ -62,12 +62,7 @@ decision c x = stay (has_decided c x) (decided c x)
 
 -- The three shapes of a result: nothing written, a read that is not the last, and a write.
 unfoldable pub staying : Record → StepAnswer → Moved
-staying f a = record {
-  station = f;
-  register = record { mark = 0; island = 0; figure = pos 0 };
-  writes = false;
-  answer = a;
-}
+staying f a = record { station = f; written = None; answer = a }
 
 unfoldable pub passing : Record → Moved
 passing f = staying (changed (position_is (f.position + 1) ∷ []) f) (Read false)
@@ -75,7 +70,15 @@ passing f = staying (changed (position_is (f.position + 1) ∷ []) f) (Read fals
 unfoldable pub writing : Record → (mark island : ℕ) → Moved
 writing f mark island = record {
   station = changed (phase_is (f.phase + 1) ∷ []) f;
-  register = record { mark = mark; island = island; figure = f.carried };
-  writes = true;
+  written = Some (record { mark = mark; island = island; figure = f.carried });
   answer = Wrote;
 }
+
+-- a result that begins a phase and writes nothing
+unfoldable pub begins : (phase island flag : ℕ) → Record → Figure → StepAnswer → Moved
+begins phase island flag f y a = staying (fields phase 0 island nothing flag f.proposal y f) a
+
+-- the one that follows a collect of A whose figures were all the same one, or not
+unfoldable pub marks : Record → (same : Bool) → Moved
+marks f same =
+    let flag : ℕ = cond same 2 1 in begins 5 f.island flag f f.best (Marked flag 0 f.best)

@@ -1,30 +1,42 @@
-// The end of a collect, for each of the three arrays: the next phase, or the decision, or the end of the islands.
+// The end of a collect: the next phase, or the decision, or the end of the islands.
 // Totals are left at 0: the step puts them in, which counts filled registers.
 // Relies on the crate's `Moved`; the reads rely on it.
-ghost use Rattle.std.specs.Prelude.{◌≡◌, ℕ, ◌<◌, eqb};
+ghost use Rattle.std.specs.Prelude.{◌≡◌, ◌<◌, eqb};
+ghost use Rattle.model.specs.declared.StepAnswer.TheVariants.{Went};
 ghost use Rattle.model.specs.Layout.{fields};
-ghost use Rattle.model.specs.Listing.{nothing, turn_m, turn_a, turn_b, Flag};
+ghost use Rattle.model.specs.Listing.{nothing, Flag};
 ghost use Rattle.model.specs.Listing as listing;
-ghost use Rattle.collect.specs.Collected.{Kept, collected, with_seen, ended_seen};
-ghost use Rattle.archipelago.specs.Advanced.{Advanced, Finishes, decision, staying};
+ghost use Rattle.collect.specs.Collected.{Kept, collected, with_seen, ended_seen, turn_of};
+ghost use Rattle.archipelago.specs.Advanced.{Advanced, Finishes, decision, staying, begins, marks};
 
 use crate::Moved;
+use collect::Turn;
 use model::marks::{ADOPT, COMMIT};
 use model::phase::{DECIDED, SPENT, WRITE_A, WRITE_B, WRITE_M};
-use model::{Record, Register, StepAnswer};
+use model::{Record, StepAnswer};
 
 pub fn stay(station: Record, answer: StepAnswer) -> Moved
     ensures { result ≡ staying station answer }
 {
     Moved {
         station,
-        register: Register {
-            mark: 0,
-            island: 0,
-            figure: 0,
-        },
-        writes: false,
+        written: None,
         answer,
+    }
+}
+
+// The flag that the station itself wrote does not matter.
+pub fn finish(turn: Turn, k: u8, station: Record) -> Moved
+    requires kept { Kept station }
+    requires island_lt_k { station.island < k }
+    ensures { (f : Flag) → Finishes (turn_of turn f) k station result }
+{
+    let last = ended(station);
+    match turn {
+        Turn::M => went(last),
+        Turn::A => marked(last),
+        Turn::B if last.seen == 2 => decided(last, last.best),
+        Turn::B => onward(k, last, last.best),
     }
 }
 
@@ -32,16 +44,17 @@ pub fn stay(station: Record, answer: StepAnswer) -> Moved
 fn start(station: Record, phase: u8, island: u8, flag: u8, carried: i32) -> Record
     ensures { result ≡ fields phase 0 island nothing flag station.proposal carried station }
 {
-    let mut next = station;
-    next.phase = phase;
-    next.position = 0;
-    next.island = island;
-    next.seen = 0;
-    next.highest = 0;
-    next.flag = flag;
-    next.carried = carried;
-    next.best = 0;
-    next
+    Record {
+        phase,
+        position: 0,
+        island,
+        seen: 0,
+        highest: 0,
+        flag,
+        carried,
+        best: 0,
+        ..station
+    }
 }
 
 // A collect that saw nothing ends as if the station's own pair had been all there was. A sound board never comes to this,
@@ -50,20 +63,21 @@ fn ended(station: Record) -> Record
     requires { Kept station }
     ensures { result ≡ with_seen station (ended_seen station.island station.carried (collected station)) }
 {
-    let mut last = station;
-    if last.seen == 0 {
-        last.seen = 3;
-        last.highest = station.island;
-        last.best = station.carried;
+    if station.seen != 0 {
+        return station;
     }
-    last
+    Record {
+        seen: 3,
+        highest: station.island,
+        best: station.carried,
+        ..station
+    }
 }
 
-pub fn finish_m(station: Record) -> Moved
-    requires { Kept station }
-    ensures { (k : ℕ) → Finishes turn_m k station result }
+// The best pair of m is the station's from here on.
+fn went(last: Record) -> Moved
+    ensures { result ≡ begins 3 last.highest 0 last last.best (Went last.highest 0 last.best) }
 {
-    let last = ended(station);
     let next = start(last, WRITE_A, last.highest, 0, last.best);
     stay(
         next,
@@ -82,54 +96,29 @@ fn all_equal(station: Record) -> bool
     station.seen == 1
 }
 
-pub fn finish_a(station: Record) -> Moved
-    requires { Kept station }
-    ensures { (k : ℕ) → Finishes turn_a k station result }
+fn marked(last: Record) -> Moved
+    ensures { result ≡ marks last (eqb last.seen 1) }
 {
-    let last = ended(station);
-    if all_equal(last) {
-        let next = start(last, WRITE_B, last.island, COMMIT, last.best);
-        return stay(
-            next,
-            StepAnswer::Marked {
-                flag: COMMIT,
-                total: 0,
-                figure: last.best,
-            },
-        );
-    }
-    let next = start(last, WRITE_B, last.island, ADOPT, last.best);
+    let flag = if all_equal(last) { COMMIT } else { ADOPT };
+    let next = start(last, WRITE_B, last.island, flag, last.best);
     stay(
         next,
         StepAnswer::Marked {
-            flag: ADOPT,
+            flag,
             total: 0,
             figure: last.best,
         },
     )
 }
 
-pub fn finish_b(k: u8, station: Record) -> Moved
-    requires kept { Kept station }
-    requires island_lt_k { station.island < k }
-    ensures { (f : Flag) → Finishes (turn_b f) k station result }
-{
-    let last = ended(station);
-    if last.seen == 2 {
-        return decided(last, last.best);
-    }
-    onward(k, last, last.best)
-}
-
 fn decided(station: Record, figure: i32) -> Moved
     ensures { Advanced station (decision station.island figure) result }
 {
-    let island = station.island;
-    let next = start(station, DECIDED, island, 0, figure);
+    let next = start(station, DECIDED, station.island, 0, figure);
     stay(
         next,
         StepAnswer::Decided {
-            island,
+            island: station.island,
             total: 0,
             figure,
         },

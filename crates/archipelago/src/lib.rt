@@ -8,17 +8,17 @@ mod read;
 ghost use Rattle.std.specs.Prelude.{◌≡◌, ◌<◌};
 ghost use Rattle.archipelago.specs.Advanced.{Moves, Ready, writing};
 
+use collect::Turn;
 use model::marks::WRITTEN;
 use model::phase::{READ_A, READ_M, WRITE_A, WRITE_B, WRITE_M};
 use model::{Record, Register, StepAnswer};
-use read::{read_a, read_b, read_m};
+use read::read;
 
-// The station after the move, the register that the move wrote if it writes, and the answer.
+// The station after the move, the register that the move wrote, and the answer.
 #[derive(Clone, Copy)]
 pub struct Moved {
     pub station: Record,
-    pub register: Register,
-    pub writes: bool,
+    pub written: Option<Register>,
     pub answer: StepAnswer,
 }
 
@@ -28,22 +28,14 @@ pub fn advance(n: u8, k: u8, station: Record, register: Register) -> Moved
     requires { Ready n k station }
     ensures { Moves n k station register result }
 {
-    if station.phase == WRITE_M {
-        return write(station, WRITTEN, station.island);
+    match station.phase {
+        WRITE_M => write(station, WRITTEN, station.island),
+        READ_M => read(Turn::M, n, k, station, register),
+        WRITE_A => write(station, WRITTEN, 0),
+        READ_A => read(Turn::A, n, k, station, register),
+        WRITE_B => write(station, station.flag, 0),
+        _ => read(Turn::B, n, k, station, register),
     }
-    if station.phase == READ_M {
-        return read_m(n, station, register);
-    }
-    if station.phase == WRITE_A {
-        return write(station, WRITTEN, 0);
-    }
-    if station.phase == READ_A {
-        return read_a(n, station, register);
-    }
-    if station.phase == WRITE_B {
-        return write(station, station.flag, 0);
-    }
-    read_b(n, k, station, register)
 }
 
 // The read phase of an array follows its write phase. The other fields of a write phase are zero already, as a read begins.
@@ -51,16 +43,16 @@ fn write(station: Record, mark: u8, island: u8) -> Moved
     requires { station.phase < 6 }
     ensures { result ≡ writing station mark island }
 {
-    let mut next = station;
-    next.phase = station.phase + 1;
     Moved {
-        station: next,
-        register: Register {
+        station: Record {
+            phase: station.phase + 1,
+            ..station
+        },
+        written: Some(Register {
             mark,
             island,
             figure: station.carried,
-        },
-        writes: true,
+        }),
         answer: StepAnswer::Wrote,
     }
 }

@@ -5,4 +5,4 @@ use Rattle.archipelago.specs.declared.Moved.{Moved}
 use Rattle.stepper.specs.declared.Access.{Access}
 
 abbrev pub with_station : Record → Access → Moved
-with_station f a = record { station = f; register = a.register; writes = a.writes; answer = a.answer }
+with_station f a = record { station = f; written = a.written; answer = a.answer }

@@ -8,11 +8,10 @@ ghost use Rattle.stepper.specs.InPlace.{with_station};
 use archipelago::{Moved, advance};
 use model::{Record, Register, StepAnswer};
 
-// What a move leaves beside the record: the register that it wrote, if it writes, and the answer.
+// What a move leaves beside the record: the register that it wrote, and the answer.
 #[derive(Clone, Copy)]
 pub struct Access {
-    pub register: Register,
-    pub writes: bool,
+    pub written: Option<Register>,
     pub answer: StepAnswer,
 }
 
@@ -23,11 +22,9 @@ fn advance_record(lent: &mut Record, n: u8, k: u8, register: Register) -> Access
 {
     let before = *lent;
     let moved = advance(n, k, before, register);
-    let after = moved.station;
-    *lent = after;
+    *lent = moved.station;
     Access {
-        register: moved.register,
-        writes: moved.writes,
+        written: moved.written,
         answer: moved.answer,
     }
 }
@@ -39,11 +36,9 @@ pub fn move_station(n: u8, k: u8, station: Record, register: Register) -> Moved
 {
     let mut own = station;
     let access = advance_record(&mut own, n, k, register);
-    let after = own;
     Moved {
-        station: after,
-        register: access.register,
-        writes: access.writes,
+        station: own,
+        written: access.written,
         answer: access.answer,
     }
 }

@@ -5,9 +5,9 @@ use Rattle.model.proofs.Basics.Numbers.{landed}
 use Rattle.archipelago.proofs.Ends.{ended_nothing, ended_seen_lem}
 use Rattle.archipelago.proofs.finish.ended.Goals as goal
 
-pub returns-then-last-eq0 : goal.returns-then-last-eq0
-unfolding noting changed
-returns-then-last-eq0 c = search (landed, ended_nothing)
+pub returns-then-station-ne0 : goal.returns-then-station-ne0
+returns-then-station-ne0 c = search ended_seen_lem
 
-pub returns-else-last-eq0 : goal.returns-else-last-eq0
-returns-else-last-eq0 c = search ended_seen_lem
+pub returns : goal.returns
+unfolding noting changed
+returns c = search (landed, ended_nothing)
