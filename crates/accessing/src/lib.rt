@@ -23,25 +23,17 @@ fn touched(n: u8, k: u8, j: usize, station: Record) -> usize
     requires { Ready n k station × (n ≤ 16) × (k ≤ 64) × (j < n) }
     ensures { Touches n j station result }
 {
-    let stations = n as usize;
-    let island = station.island as usize;
-    let next = station.position as usize;
-    if station.phase == WRITE_M {
-        return register_offset(stations, 0, j);
+    let stations = usize::from(n);
+    let island = usize::from(station.island);
+    let next = usize::from(station.position);
+    match station.phase {
+        WRITE_M => register_offset(stations, 0, j),
+        READ_M => register_offset(stations, 0, next),
+        WRITE_A => register_offset(stations, 1 + 2 * island, j),
+        READ_A => register_offset(stations, 1 + 2 * island, next),
+        WRITE_B => register_offset(stations, 2 + 2 * island, j),
+        _ => register_offset(stations, 2 + 2 * island, next),
     }
-    if station.phase == READ_M {
-        return register_offset(stations, 0, next);
-    }
-    if station.phase == WRITE_A {
-        return register_offset(stations, 1 + 2 * island, j);
-    }
-    if station.phase == READ_A {
-        return register_offset(stations, 1 + 2 * island, next);
-    }
-    if station.phase == WRITE_B {
-        return register_offset(stations, 2 + 2 * island, j);
-    }
-    register_offset(stations, 2 + 2 * island, next)
 }
 
 // The filled registers that the collect of the record at `at` has met, with the one that it reads last. The count is at most
@@ -50,11 +42,7 @@ fn total_with(board: &[u8], at: usize, register: Register) -> u8
     requires { (at + 24 ≤ length board.now) × (met_read at board.now < 255) }
     ensures { result ≡ met_read at board.now + filled_in (register_value register) }
 {
-    let met = board[at + 6];
-    if register.mark == 0 {
-        return met;
-    }
-    met + 1
+    board[at + 6] + u8::from(register.mark != 0)
 }
 
 // A move's answer with the total of the collect that it ended. The other cases have none, and are handed back.
@@ -62,8 +50,6 @@ fn with_total(answer: StepAnswer, total: u8) -> StepAnswer
     ensures { told result ≡ report (told answer).did (told answer).met total }
 {
     match answer {
-        StepAnswer::Wrote => StepAnswer::Wrote,
-        StepAnswer::Read { filled } => StepAnswer::Read { filled },
         StepAnswer::Went { island, figure, .. } => StepAnswer::Went {
             island,
             total,
@@ -89,7 +75,7 @@ fn with_total(answer: StepAnswer, total: u8) -> StepAnswer
             total,
             figure,
         },
-        StepAnswer::Refused { number } => StepAnswer::Refused { number },
+        other => other,
     }
 }
 
@@ -104,16 +90,15 @@ fn access(board: &mut [u8], n: u8, k: u8, j: usize, at: usize, station: Record) 
     let place = touched(n, k, j, station);
     let register = register_at(board, place);
     let moved = move_station(n, k, station, register);
-    if moved.writes {
-        put_register(board, place, moved.register);
+    if let Some(written) = moved.written {
+        put_register(board, place, written);
         put_phase(board, at, moved.station);
         return StepAnswer::Wrote;
     }
     if moved.station.position == 0 {
-        let answer = moved.answer;
-        let ended = with_total(answer, total_with(board, at, register));
+        let total = total_with(board, at, register);
         put_started(board, at, moved.station);
-        return ended;
+        return with_total(moved.answer, total);
     }
     put_collected(board, at, moved.station);
     if register.mark == 0 { // empty: not counted
@@ -125,7 +110,7 @@ fn access(board: &mut [u8], n: u8, k: u8, j: usize, at: usize, station: Record) 
 
 // One step of a station that goes on, by its place: its access, whatever kind it is of, and one more in its steps. The
 // record is read here: several functions call this one, so that it stays a call, and a record handed over would go through
-// memory. A sound board has room for one step more, so the sum cannot wrap.
+// memory, as a struct of the four numbers would. A sound board has room for one step more, so the sum cannot wrap.
 pub fn step_going(board: &mut [u8], n: u8, k: u8, j: usize, at: usize) -> StepAnswer
     requires { Known n k j at board.old × (1 ≤ get_or board.old at 0) × (get_or board.old at 0 ≤ 6) }
     ensures { StepsOn (j + 1) board.old result board.new }

@@ -2,6 +2,7 @@
 -- Relies on Ready, Putting, Met and the promise of `move_station`; the proof of `access` relies on it.
 use Rattle.model.proofs.Kit.{◌≡◌, refl, sym, ap, subst, ◌∙◌, true, false, List, Option, ℕ, zero, suc, ◌+◌, ◌≤◌, ◌<◌}
 use Rattle.model.proofs.Kit.{[], ◌∷◌, length, arith}
+use Rattle.std.specs.Prelude.{Some, None}
 use Rattle.model.specs.declared.Record.{Record}
 use Rattle.model.specs.declared.Register as Fields
 use Rattle.model.specs.Bytes.{part, splice, digits}
@@ -15,7 +16,6 @@ use Rattle.model.specs.Sound.{most_met}
 use Rattle.model.specs.Filled.{filled_in, report}
 use Rattle.model.specs.Calls.{put_record, put_register}
 use Rattle.model.proofs.Board.Codec.{length_record}
-use Rattle.model.proofs.Basics.Tests.{clash}
 use Rattle.model.proofs.Basics.Splices.{length_splice, part_same, part_after}
 use Rattle.model.proofs.Board.Places.{InBoard, register_inside, register_fits, record_inside}
 use Rattle.model.proofs.Board.Values.{array_inside}
@@ -30,7 +30,7 @@ use Rattle.model.specs.declared.StepAnswer.TheVariants.{Wrote, Read}
 use Rattle.model.specs.Told.{told}
 use Rattle.accessing.specs.Accessed.{Touches, register_on, move_on, total_on, record_on, Accesses}
 use Rattle.accessing.specs.Accessed.{OnSize, Stands}
-use Rattle.accessing.proofs.Laws.Ready.{put_written_lem, put_nothing}
+use Rattle.accessing.proofs.Laws.Ready.{never_both, put_written_lem, put_nothing}
 use Rattle.accessing.proofs.Laws.Putting.{write_changes, read_changes, move_changes}
 use Rattle.accessing.proofs.Laws.Met.{TellsAt, LeavesAt, empty_met, filled_met, write_met, end_met, collect_met}
 
@@ -127,13 +127,14 @@ module _ (n K j : ℕ) (f : Record) (b : List ℕ) (place at : ℕ) (g : Fields.
       (a f.proposal here.stage here.stands)
 
   -- only a write writes, and it writes the station's own register
-  own_column : (s : Stage Figure) → Written (move_on n K j s b).written m → m.writes ≡ true → place_column j s ≡ j
+  own_column : (s : Stage Figure) → Written (move_on n K j s b).written m → (w : Fields.Register) → m.written ≡ Some w
+      → place_column j s ≡ j
   unfolding place_column Written
-  own_column (writing u c x) w q = refl
-  own_column (reading u c x p e) w q =
-      clash (sym q ∙ subst (λ (o : Option (Register Figure)). Written o m) (read_writes K figures n u c x p e _) w)
-  own_column (has_decided c x) w q = refl
-  own_column (is_spent c x) w q = refl
+  own_column (writing u c x) q w e = refl
+  own_column (reading u c x p r) q w e =
+      never_both m w (subst (λ (o : Option (Register Figure)). Written o m) (read_writes K figures n u c x p r _) q) e
+  own_column (has_decided c x) q w e = refl
+  own_column (is_spent c x) q w e = refl
 
   -- what is to be shown of an answer r and the record q that is put back, the register standing in the bytes e
   abbrev Told : StepAnswer → Type 0
@@ -176,18 +177,18 @@ module _ (n K j : ℕ) (f : Record) (b : List ℕ) (place at : ℕ) (g : Fields.
       (record_fits n K j b at z o.place) ∙ o.laid
 
   -- only the part that changed put back: over the rest, which stands there, it makes the whole record
-  pub accessed_writing : (e d : List ℕ) → m.writes ≡ true → e ≡ splice place (lay_register m.register) b
+  pub accessed_writing : (e d : List ℕ) (w : Fields.Register) → m.written ≡ Some w → e ≡ splice place (lay_register w) b
       → d ≡ put_changes (phase_part m.station) at e → Accesses n K j at f b Wrote d
   unfolding Touches phase_part changed
-  accessed_writing e d q ee ed =
+  accessed_writing e d w q ee ed =
       let s = here.stage in
-      let put = ee ∙ ap (λ (k : ℕ). splice k (lay_register m.register) b)
-      (t s here.stands ∙ ap (register_at n (place_array s)) (own_column s moved.written q))
-      ∙ sym (put_written_lem n (place_array s) j b m _ moved.written q) in
+      let put = ee ∙ ap (λ (k : ℕ). splice k (lay_register w) b)
+      (t s here.stands ∙ ap (register_at n (place_array s)) (own_column s moved.written w q))
+      ∙ sym (put_written_lem n (place_array s) j b m _ moved.written w q) in
       accessed Wrote (meeting (met_read at b) m.station) e d
-      (write_met f _ _ n K m s here.goes (rw here.stands at o.met) moved q) put
-      (ed ∙ put_back at e (record_fits_after n K j f b e place at m.register h z t o.place ee) _ _ _
-      (beside m.register e ee) (over (phase_part m.station) _ (write_changes n K f _ m s laid moved q) refl))
+      (write_met f _ _ n K m s here.goes (rw here.stands at o.met) moved w q) put
+      (ed ∙ put_back at e (record_fits_after n K j f b e place at w h z t o.place ee) _ _ _
+      (beside w e ee) (over (phase_part m.station) _ (write_changes n K f _ m s laid moved w q) refl))
 
   -- ---- reads, and what the collect has met by them
 
@@ -205,7 +206,7 @@ module _ (n K j : ℕ) (f : Record) (b : List ℕ) (place at : ℕ) (g : Fields.
   pub total_room : met_read at b < 255
   total_room = omega (arith, met_few)
 
-  module _ (q : m.writes ≡ false) where
+  module _ (q : m.written ≡ None) where
     unwritten : b ≡ put_register n (place_array here.stage) j (move_on n K j here.stage b).written b
     unwritten = sym (put_nothing n (place_array here.stage) j b m _ moved.written q)
 

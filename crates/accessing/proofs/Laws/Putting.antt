@@ -1,18 +1,21 @@
 -- What a move changes in a station's record: a write the phase alone, a read in the middle of a collect what it has
--- seen, and no move the proposal. Relies on the listing's move and on the codec's parts of a record; the law of an
+-- seen, and no move the proposal. Relies on Ready, the listing's move and the codec's parts of a record; the law of an
 -- accepted step relies on it, which puts back only what changed.
-use Rattle.model.proofs.Kit.{◌≡◌, refl, sym, ap, subst, ◌∙◌, true, false, List, Option, ℕ, ◌+◌, ltb}
+use Rattle.model.proofs.Kit.{◌≡◌, refl, sym, ap, subst, ◌∙◌, List, Option, ℕ, ◌+◌, ltb}
+use Rattle.std.specs.Prelude.{Some, None}
 use Rattle.model.specs.declared.Record.{Record}
+use Rattle.model.specs.declared.Register as Fields
 use Rattle.model.specs.Figure.{Figure, figures}
 use Rattle.model.specs.Listing.{Turn, Register, Seen, Stage, writing, reading, has_decided, is_spent, active}
 use Rattle.model.specs.Listing.{Move, stay, ended, see, move}
 use Rattle.model.specs.Layout.{fields, record_fields, Change, changed}
-use Rattle.model.proofs.Basics.Tests.{clash, cond_case}
+use Rattle.model.proofs.Basics.Tests.{cond_case}
 use Rattle.model.proofs.Listing.Cases.{ended_case}
 use Rattle.model.proofs.Listing.Written.{read_writes}
 use Rattle.codec.specs.Parts.{meeting, phase_part, collected_part, started_part}
 use Rattle.archipelago.specs.declared.Moved.{Moved}
 use Rattle.archipelago.specs.Advanced.{Written, Advanced}
+use Rattle.accessing.proofs.Laws.Ready.{never_both}
 
 -- ---- a collect that has ended leaves the station at position 0
 
@@ -36,20 +39,19 @@ module _ (n K : ℕ) (f : Record) (g : Register Figure) (m : Moved) where
       → changed (part m.station) f ≡ m.station
   over part p q ep eq h = (λ i. changed (part (eq i)) (ep i)) ∙ h ∙ sym eq
 
-  pub write_changes : (s : Stage Figure) → Of s → Advanced f (move figures n K s g) m → m.writes ≡ true
-      → changed (phase_part m.station) f ≡ m.station
+  pub write_changes : (s : Stage Figure) → Of s → Advanced f (move figures n K s g) m → (w : Fields.Register)
+      → m.written ≡ Some w → changed (phase_part m.station) f ≡ m.station
   unfolding move stay Written record_fields fields changed phase_part
-  write_changes (writing t c x) e a w = over phase_part _ _ e a.station refl
-  write_changes (reading t c x p r) e a w =
-      clash (sym w
-      ∙ subst (λ (o : Option (Register Figure)). Written o m) (read_writes K figures n t c x p r g) a.written)
-  write_changes (has_decided c x) e a w = clash (sym w ∙ a.written)
-  write_changes (is_spent c x) e a w = clash (sym w ∙ a.written)
+  write_changes (writing t c x) e a w q = over phase_part _ _ e a.station refl
+  write_changes (reading t c x p r) e a w q =
+      never_both m w (subst (λ (o : Option (Register Figure)). Written o m) (read_writes K figures n t c x p r g) a.written) q
+  write_changes (has_decided c x) e a w q = never_both m w a.written q
+  write_changes (is_spent c x) e a w q = never_both m w a.written q
 
-  pub read_changes : (s : Stage Figure) → Of s → Advanced f (move figures n K s g) m → m.writes ≡ false
+  pub read_changes : (s : Stage Figure) → Of s → Advanced f (move figures n K s g) m → m.written ≡ None
       → (m.station.position ≡ 0 → ⊥) → changed (collected_part m.station) f ≡ m.station
   unfolding move stay Written record_fields fields changed collected_part
-  read_changes (writing t c x) e a w l = clash (sym a.written.0 ∙ w)
+  read_changes (writing t c x) e a w l = never_both m _ w a.written
   read_changes (reading t c x p r) e a w l =
       cond_case (λ (z : Move Figure). Advanced f z m → changed (collected_part m.station) f ≡ m.station)
       (ltb (p + 1) n) _ _

@@ -1,17 +1,17 @@
 -- What a step needs beside the contract of `advance`: the record of a sound board whose phase is 1 to 6 is ready, and
 -- what is written is put where the move says. Relies on the model's laws of sound records; Accessing and Stepping rely
 -- on it.
-use Rattle.model.proofs.Kit.{◌≡◌, refl, sym, ap, ◌∙◌, true, false, List, none, some, Option, ℕ, ◌≤◌, T, length}
+use Rattle.model.proofs.Kit.{◌≡◌, refl, sym, ap, ◌∙◌, List, none, some, Option, ℕ, ◌≤◌, T, length}
+use Rattle.std.specs.Prelude.{Some, None}
 use Rattle.model.specs.declared.Record.{Record}
 use Rattle.model.specs.declared.Register as Fields
 use Rattle.model.specs.Bytes.{byte, splice}
 use Rattle.model.specs.Figure.{Figure}
 use Rattle.model.specs.Listing.{Array, Register, Station}
-use Rattle.model.specs.Layout.{read_record, record_fields, record_value, changed, with_counts, lay_register}
+use Rattle.model.specs.Layout.{read_record, record_fields, record_value, changed, with_counts, lay_register, register_fields}
 use Rattle.model.specs.Layout.{register_at}
 use Rattle.model.specs.Calls.{put_register}
 use Rattle.model.specs.Sound.{fields_sound}
-use Rattle.model.proofs.Basics.Tests.{clash}
 use Rattle.model.proofs.Board.Good.{position_fact, island_fact}
 use Rattle.model.proofs.Board.Canon.{fields_station}
 use Rattle.model.proofs.Board.Codec.{counts_beside, value_beside}
@@ -44,14 +44,20 @@ ready_unmet n K f h = record {
   island = h.island;
 }
 
-module _ (n : ℕ) (a : Array) (j : ℕ) (b : List ℕ) (r : Moved) where
-  pub put_written_lem : (o : Option (Register Figure)) → Written o r → r.writes ≡ true
-      → put_register n a j o b ≡ splice (register_at n a j) (lay_register r.register) b
-  unfolding Written put_register
-  put_written_lem none w e = clash (sym e ∙ w)
-  put_written_lem (some g) w e = ap (λ (f : Fields.Register). splice (register_at n a j) (lay_register f) b) (sym w.1)
+-- a move writes or it does not
+pub never_both : {X : Type 0} (r : Moved) (w : Fields.Register) → r.written ≡ None → r.written ≡ Some w → X
+never_both r w n e = absurd (cc)
 
-  pub put_nothing : (o : Option (Register Figure)) → Written o r → r.writes ≡ false → put_register n a j o b ≡ b
+module _ (n : ℕ) (a : Array) (j : ℕ) (b : List ℕ) (r : Moved) where
+  pub put_written_lem : (o : Option (Register Figure)) → Written o r → (w : Fields.Register) → r.written ≡ Some w
+      → put_register n a j o b ≡ splice (register_at n a j) (lay_register w) b
   unfolding Written put_register
-  put_nothing none w e = refl
-  put_nothing (some g) w e = clash (sym w.0 ∙ e)
+  put_written_lem none q w e = never_both r w q e
+  put_written_lem (some g) q w e =
+      let same : register_fields g ≡ w = cc in
+      ap (λ (f : Fields.Register). splice (register_at n a j) (lay_register f) b) same
+
+  pub put_nothing : (o : Option (Register Figure)) → Written o r → r.written ≡ None → put_register n a j o b ≡ b
+  unfolding Written put_register
+  put_nothing none q e = refl
+  put_nothing (some g) q e = never_both r (register_fields g) e q

@@ -14,11 +14,11 @@ put_register-requires c = search place_fits
 pub put_phase-requires : goal.put_phase-requires
 put_phase-requires c = search record_fits_after
 
-pub returns-then-moved : goal.returns-then-moved
-returns-then-moved c = search accessed_writing
+pub returns-in-Some : goal.returns-in-Some
+returns-in-Some c = search accessed_writing
 
-pub total_with-requires : goal.total_with-requires
-total_with-requires c = (search record_fits, search total_room)
+pub total_with-total-requires : goal.total_with-total-requires
+total_with-total-requires c = (search record_fits, search total_room)
 
 pub put_started-requires : goal.put_started-requires
 put_started-requires c = search record_fits
