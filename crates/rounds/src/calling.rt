@@ -7,22 +7,20 @@ ghost use Rattle.model.specs.Told.{rounds_told};
 use crate::lent::{needs_of, play_rounds};
 use crate::phases::decided_on;
 use crate::refusing::rounds_refusal;
-use model::{RoundsVerdict, Verdict};
+use model::RoundsPlayed;
+use model::refusal::Refusal;
 
 // `most` is how many stations a round may name. Nothing is played of a call that is refused.
-pub fn rounds(board: &mut [u8], most: u8, named: &[u8]) -> RoundsVerdict
-    ensures { (rounds_told result ≡ (rounds most (lent_rounds named.now) board.old).answer) × (board.new ≡ (rounds most (lent_rounds named.now) board.old).bytes) }
+#[tactic(auto, using(crate::proofs::Laws::Calling::calling))]
+pub fn rounds(board: &mut [u8], most: u8, named: &[u8]) -> Result<RoundsPlayed, Refusal>
+    ensures answer { rounds_told result ≡ (rounds most (lent_rounds named.now) board.old).answer }
+    ensures bytes { board.new ≡ (rounds most (lent_rounds named.now) board.old).bytes }
 {
     let asked = needs_of(named, most);
-    let checked = rounds_refusal(board, asked.needs);
-    match checked {
-        Verdict::Refused { number } => RoundsVerdict::Refused { number },
-        Verdict::Accepted => {
-            play_rounds(board, named);
-            RoundsVerdict::Played {
-                rounds: asked.rounds,
-                decided: decided_on(board),
-            }
-        }
-    }
+    rounds_refusal(board, asked.needs)?;
+    play_rounds(board, named);
+    Ok(RoundsPlayed {
+        rounds: asked.rounds,
+        decided: decided_on(board),
+    })
 }

@@ -11,7 +11,7 @@ ghost use Rattle.rounds.specs.Suspended.{Suspends};
 
 use crate::round::play_round;
 use crate::suspending::suspend;
-use halts::{climbed, larger, round_needs};
+use halts::{climbed, round_needs};
 use scan::find;
 
 // No station's number.
@@ -25,42 +25,40 @@ pub struct Asked {
 }
 
 // What the stations of one round need, whatever their number.
+#[tactic(auto, using(crate::proofs::Laws::Lent::climbs_fold))]
 fn climb_of(named: &[u8]) -> u8
     ensures { result ≡ climbs 0 named.now }
 {
-    let mut last: u8 = 0;
-    let mut i = 0;
-    while i < named.len() {
-        last = climbed(last, named[i]);
-        i += 1;
-    }
-    last
+    named
+        .iter()
+        .fold(0, |last, station| climbed(last, *station))
 }
 
 // The set that one round names.
+#[tactic(auto, using(crate::proofs::Laws::Suspended::naming))]
 fn halted_of(named: &[u8]) -> [bool; 16]
     ensures { Suspends result named.now }
 {
-    let mut halted: [bool; 16] = [false; 16];
-    let mut i = 0;
-    while i < named.len() {
-        suspend(&mut halted, named[i]);
-        i += 1;
+    let mut halted = [false; 16];
+    for &station in named {
+        suspend(&mut halted, station);
     }
     halted
 }
 
 // All rounds are summed up before any is played: one at the end of the list may turn the whole call down.
+// `split` would find one round more behind a final mark, and `split_inclusive` leaves the mark in each.
+#[tactic(auto, using(crate::proofs::Laws::Lent::asked_begun))]
 pub fn needs_of(named: &[u8], most: u8) -> Asked
     ensures { Asks most named.now result }
 {
-    let mut rounds: usize = 0;
-    let mut needs: u8 = 0;
+    let mut rounds = 0;
+    let mut needs = 0;
     let mut at = 0;
     while at < named.len() {
         let end = find(named, at, ROUND_END);
         let last = climb_of(&named[at..end]);
-        needs = larger(needs, round_needs(last, end - at, most));
+        needs = needs.max(round_needs(last, end - at, most));
         rounds += 1;
         at = end + 1;
     }
@@ -68,6 +66,7 @@ pub fn needs_of(named: &[u8], most: u8) -> Asked
 }
 
 // Each round in turn, on a board that is known to be sound.
+#[tactic(auto, using(crate::proofs::Laws::Lent::playing))]
 pub fn play_rounds(board: &mut [u8], named: &[u8])
     requires { board_refusal board.old none ≡ none }
     ensures { board.new ≡ after_rounds (lent_rounds named.now) board.old }

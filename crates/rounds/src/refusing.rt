@@ -7,32 +7,29 @@ ghost use Rattle.std.proofs.Math.Option.{none};
 ghost use Rattle.model.specs.Calls.{board_refusal};
 
 use crate::phases::all_settled;
-use model::Verdict;
+use model::refusal::Refusal;
 use soundness::board::check_board;
 
 // 18 and 19, on a board that is known to be sound.
-fn refusal_on(board: &[u8], needs: u8) -> Verdict
+#[tactic(auto, using(crate::proofs::Laws::Refusing::refusing))]
+fn refusal_on(board: &[u8], needs: u8) -> Result<(), Refusal>
     requires { board_refusal board.now none ≡ none }
     ensures { Refuses needs board.now result }
 {
-    let settled = all_settled(board);
-    let n = board[0];
-    if !settled {
-        return Verdict::Refused { number: 18 };
+    if !all_settled(board) {
+        return Err(Refusal::CollectUnderWay);
     }
-    if n < needs {
-        return Verdict::Refused { number: 19 };
+    if board[0] < needs {
+        return Err(Refusal::UnknownRound);
     }
-    Verdict::Accepted
+    Ok(())
 }
 
 // Any bytes of any length are answered.
-pub fn rounds_refusal(board: &[u8], needs: u8) -> Verdict
+#[tactic(auto, using(crate::proofs::Laws::Refusing::board_refused), unfolding(model::specs::Told::verdict))]
+pub fn rounds_refusal(board: &[u8], needs: u8) -> Result<(), Refusal>
     ensures { Refuses needs board.now result }
 {
-    let checked = check_board(board);
-    match checked {
-        Verdict::Refused { number } => Verdict::Refused { number },
-        Verdict::Accepted => refusal_on(board, needs),
-    }
+    check_board(board)?;
+    refusal_on(board, needs)
 }

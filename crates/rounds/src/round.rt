@@ -10,34 +10,33 @@ ghost use Rattle.rounds.specs.Rounds.{after_turns, after_round};
 use stepping::repeated::steps_of;
 
 // A station's part in a round.
+#[tactic(auto, using(crate::proofs::Laws::Turns::turning))]
 fn turn_of(board: &mut [u8], station: u8, halted: bool, steps: usize)
     requires { board_refusal board.old none ≡ none }
     ensures { board.new ≡ after step_on board.old (cond halted [] (replicate steps station)) }
 {
-    if halted {
-        return;
+    if !halted {
+        steps_of(board, station, steps);
     }
-    steps_of(board, station, steps);
 }
 
 // The stations in their order, each before the next begins.
+#[tactic(auto, using(crate::proofs::Laws::Turns::turns))]
 fn stations_in_turn(board: &mut [u8], halted: [bool; 16], steps: usize)
     requires { board_refusal board.old none ≡ none }
     ensures { board.new ≡ after_turns steps halted board.old }
 {
-    let n = board[0] as usize;
-    let mut j = 0;
-    while j < n {
-        turn_of(board, (j + 1) as u8, halted[j], steps);
-        j += 1;
+    for j in 0..board[0] {
+        turn_of(board, j + 1, halted[usize::from(j)], steps);
     }
 }
 
 // A write is one step and the collect of its array one for each station.
+#[tactic(auto, using(crate::proofs::Laws::Turns::heads), unfolding(model::specs::Calls::stations))]
 pub fn play_round(board: &mut [u8], halted: [bool; 16])
     requires { board_refusal board.old none ≡ none }
     ensures { board.new ≡ after_round halted board.old }
 {
-    let n = board[0] as usize;
+    let n = usize::from(board[0]);
     stations_in_turn(board, halted, n + 1);
 }

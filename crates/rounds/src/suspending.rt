@@ -4,15 +4,12 @@ ghost use Rattle.std.specs.Prelude.{◌≡◌, length};
 ghost use Rattle.rounds.specs.Suspended.{Adds};
 
 // One station more. A number that no board's station has leaves the set as it was.
+#[tactic(auto, using(crate::proofs::Laws::Suspended::adding))]
 pub fn suspend(halted: &mut [bool; 16], station: u8)
     requires { length halted.old ≡ 16 }
     ensures { Adds halted.old station halted.new }
 {
-    if station < 1 {
-        return;
+    if matches!(station, 1..=16) {
+        halted[usize::from(station) - 1] = true;
     }
-    if 16 < station {
-        return;
-    }
-    halted[station as usize - 1] = true;
 }

@@ -1,29 +1,41 @@
 -- The call by the round over a lent list, at each return.
 -- Relies on rounds played and refused; the proof of the public call relies on it.
+use Rattle.std.specs.Prelude.{Ok, Err}
 use Rattle.model.proofs.Kit.{◌≡◌, sym, List, ℕ}
-use Rattle.model.specs.declared.Verdict.{Verdict}
-use Rattle.model.specs.declared.Verdict.TheVariants as verdicts
-use Rattle.model.specs.declared.RoundsVerdict.TheVariants.{Played, Refused}
+use Rattle.model.specs.declared.refusal.Refusal as refusals
 use Rattle.model.specs.Rounds.{lent_rounds, decided_on, rounds}
 use Rattle.model.specs.Told.{rounds_told}
 use Rattle.rounds.specs.declared.lent.Asked.{Asked}
 use Rattle.rounds.specs.Asked.{Refuses, Asks}
 use Rattle.rounds.specs.Rounds.{after_rounds}
-use Rattle.rounds.proofs.Laws.Rounds.{rounds_turned, rounds_passed, rounds_refused, rounds_played}
+use Rattle.rounds.proofs.Laws.Rounds.{rounds_turned, rounds_passed, passed_sound, left_sound, refused_answer, refused_bytes}
+use Rattle.rounds.proofs.Laws.Rounds.{played_answer, played_bytes}
 
-module _ (most : ℕ) (named b : List ℕ) (asked : Asked) (a : Asks most named asked) (w : Verdict)
-    (h : Refuses asked.needs b w) where
-  pub call_refused : (number : ℕ) → w ≡ verdicts.Refused number
-      → (rounds_told (Refused number) ≡ (rounds most (lent_rounds named) b).answer)
-      × (b ≡ (rounds most (lent_rounds named) b).bytes)
-  call_refused number e =
-      rounds_refused most (lent_rounds named) b number
-      (rounds_turned asked.needs b w h most _ (sym a.needs) number e)
+module _ (most : ℕ) (named b : List ℕ) (asked : Asked) (a : Asks most named asked) where
+  module _ (r : refusals.Refusal) (h : Refuses asked.needs b (Err r)) where
+    pub call_refused_answer : rounds_told (Err r) ≡ (rounds most (lent_rounds named) b).answer
+    call_refused_answer = refused_answer most (lent_rounds named) b r (rounds_turned asked.needs b most _ (sym a.needs) r h)
 
-  pub call_played : w ≡ verdicts.Accepted → (d : List ℕ) (decided : ℕ) → d ≡ after_rounds (lent_rounds named) b
-      → decided ≡ decided_on d
-      → (rounds_told (Played asked.rounds decided) ≡ (rounds most (lent_rounds named) b).answer)
-      × (d ≡ (rounds most (lent_rounds named) b).bytes)
-  call_played e d decided q p =
-      rounds_played most (lent_rounds named) b asked.rounds d decided
-      (rounds_passed asked.needs b w h most _ (sym a.needs) e) a.rounds q p
+    pub call_refused_bytes : b ≡ (rounds most (lent_rounds named) b).bytes
+    call_refused_bytes = refused_bytes most (lent_rounds named) b r (rounds_turned asked.needs b most _ (sym a.needs) r h)
+
+  module _ (x : Unit {0}) (h : Refuses asked.needs b (Ok x)) (d : List ℕ) (q : d ≡ after_rounds (lent_rounds named) b)
+    where
+      pub call_played_answer : (decided : ℕ) → decided ≡ decided_on d
+          → rounds_told (Ok (record { rounds = asked.rounds; decided = decided })) ≡ (rounds most (lent_rounds named) b).answer
+      call_played_answer decided p =
+          played_answer most (lent_rounds named) b d (rounds_passed asked.needs b most _ (sym a.needs) x h) q asked.rounds
+          decided a.rounds p
+
+      pub call_played_bytes : d ≡ (rounds most (lent_rounds named) b).bytes
+      call_played_bytes =
+          played_bytes most (lent_rounds named) b d (rounds_passed asked.needs b most _ (sym a.needs) x h) q
+
+pub ruleset calling = (
+  passed_sound,
+  left_sound,
+  call_refused_answer,
+  call_refused_bytes,
+  call_played_answer,
+  call_played_bytes,
+)

@@ -1,17 +1,17 @@
 -- The rounds of a lent list, one after another: what they need and that they are played.
 -- Relies on bytes in parts, on what rounds need and on rounds played; the proofs of the lent rounds rely on it.
 use Rattle.model.proofs.Kit.{◌≡◌, refl, sym, ap, ◌∙◌, Bool, List, [], ◌∷◌, ◌++◌, append_assoc, append-nil, none, ℕ}
-use Rattle.model.proofs.Kit.{◌+◌, ◌-◌, ◌≤◌, ◌<◌, length, take, drop, get_or, length-append, length-drop, take_all}
-use Rattle.model.proofs.Kit.{add-one, arith}
+use Rattle.model.proofs.Kit.{◌+◌, ◌-◌, ◌≤◌, ◌<◌, length, take, drop, length-append, length-drop}
+use Rattle.model.proofs.Kit.{arith}
 use Prim.Native.Nat.{max}
+use Rattle.std.specs.List.{fold}
 use lib.ListN.{length-take}
-use lib.Seq.{take-suc}
 use Rattle.scan.specs.Scan.{index_of}
 use Rattle.model.specs.Calls.{board_refusal}
 use Rattle.model.specs.Rounds.{round_end, lent_rounds}
 use Rattle.model.proofs.Basics.Ended.{no_parts, parts_found}
 use Rattle.halts.specs.Needs.{climb, climbs, closed, round_needs, needs}
-use Rattle.halts.proofs.Laws.Grown.{climbs_grown, needs_grown}
+use Rattle.halts.proofs.Laws.Grown.{needs_grown}
 use Rattle.rounds.specs.Asked.{Asks}
 use Rattle.rounds.specs.Suspended.{Suspends}
 use Rattle.rounds.specs.Rounds.{after_round, after_rounds}
@@ -20,19 +20,11 @@ use Rattle.rounds.proofs.Laws.Rounds.{rounds_length}
 
 -- ---- the stations of one round
 
-pub climb_begun : 0 ≡ climbs 0 []
+-- a fold over the stations
+pub climbs_fold : (last : ℕ) (r : List ℕ) → fold climb last r ≡ climbs last r
 unfolding climbs
-climb_begun = refl
-
-module _ (named : List ℕ) where
-  pub climb_more : (last i r : ℕ) → last ≡ climbs 0 (take i named) → i < length named → r ≡ climb last (get_or named i 0)
-      → r ≡ climbs 0 (take (i + 1) named)
-  climb_more last i r e l q =
-      q ∙ ap (λ (x : ℕ). climb x (get_or named i 0)) e ∙ sym (climbs_grown 0 (take i named) (get_or named i 0))
-      ∙ ap (climbs 0) (sym (ap (λ (k : ℕ). take k named) (add-one i) ∙ take-suc named i 0 l))
-
-  pub climb_all : (last i : ℕ) → last ≡ climbs 0 (take i named) → length named ≤ i → last ≡ climbs 0 named
-  climb_all last i e l = e ∙ ap (climbs 0) (take_all i named l)
+climbs_fold last [] = refl
+climbs_fold last (i ∷ is) = climbs_fold (climb last i) is
 
 -- ---- one round after another
 
@@ -135,3 +127,5 @@ module _ (b named : List ℕ) where
         rounds_bytes b p.done d p.plays
         ∙ ap (λ (rs : List (List ℕ)). after_rounds rs b)
         (all_done named at p.done p.upto l)
+
+pub ruleset playing = (played_begun, played_more, played_length)

@@ -1,6 +1,6 @@
 -- What byte 0 of a record says of its station, and the loops over the stations of a sound board that read it.
 -- Relies on the layout and on loops over numbers; the proofs of the phases rely on it.
-use Rattle.model.proofs.Kit.{◌≡◌, refl, sym, ap, ◌∙◌, Bool, true, false, cond, not, List, none, ℕ, zero, suc, ◌+◌}
+use Rattle.model.proofs.Kit.{◌≡◌, refl, sym, ap, ◌∙◌, Bool, true, false, cond, not, List, none, ℕ, zero, suc, ◌+◌, eqb, ne_eqb, subst, ◌⊎◌, ⊎_elim}
 use Rattle.model.proofs.Kit.{◌≤◌, ◌<◌, length, get_or, add-zero, arith}
 use Rattle.model.specs.Bytes.{byte, every, count}
 use Rattle.model.specs.Figure.{Figure}
@@ -9,56 +9,48 @@ use Rattle.model.specs.Layout.{record_at, record_of, fields_of, read_record, of_
 use Rattle.model.specs.Layout.{station_of}
 use Rattle.model.specs.Calls.{stations, islands, board_refusal}
 use Rattle.model.specs.Rounds.{settled, is_decided, all_settled, decided_on}
-use Rattle.model.proofs.Basics.Loops.{every_more, every_end, every_fails, count_more, count_most}
+use Rattle.model.proofs.Basics.Loops.{every_none, count_none, every_more, every_end, every_fails, count_more, count_most}
 use Rattle.model.proofs.Basics.Loops.{count_end}
 use Rattle.model.proofs.Basics.Splices.{byte_part}
 use Rattle.model.proofs.Board.Places.{record_inside}
-use Rattle.record_soundness.proofs.Laws.Chains.{no, yes}
-use Rattle.soundness.proofs.Laws.Placing.{head}
+use Rattle.soundness.proofs.Laws.Placing.{head, head_long, n_high, k_high}
 use Rattle.rounds.specs.Phases.{Settles, Decides}
 
 -- ---- by the phase
 
-module _ (h : ℕ) where
-  pub in_m_lem : h ≡ 2 → Settles h false
-  unfolding Settles settled of_phase reading_of
-  in_m_lem e f = ap (λ (p : ℕ). settled (of_phase p f)) e
+-- in the middle of a collect, and in any other phase
+pub reading : (h : ℕ) → (h ≡ 2) ⊎ ((h ≡ 4) ⊎ (h ≡ 6)) → Settles h false
+unfolding Settles settled of_phase reading_of
+reading h = ⊎_elim (λ e. rw e (λ f. refl)) (⊎_elim (λ e. rw e (λ f. refl)) (λ e. rw e (λ f. refl)))
 
-  pub in_a_lem : h ≡ 4 → Settles h false
-  unfolding Settles settled of_phase reading_of
-  in_a_lem e f = ap (λ (p : ℕ). settled (of_phase p f)) e
-
-  pub in_b : h ≡ 6 → Settles h false
-  unfolding Settles settled of_phase reading_of
-  in_b e f = ap (λ (p : ℕ). settled (of_phase p f)) e
-
-  pub in_seven : h ≡ 7 → Decides h 1
-  unfolding Decides is_decided of_phase
-  in_seven e f = ap (λ (p : ℕ). cond (is_decided (of_phase p f)) 1 0) (sym e)
-
-pub in_none : (h : ℕ) → (h ≡ 2 → ⊥) → (h ≡ 4 → ⊥) → (h ≡ 6 → ⊥) → Settles h true
+pub not_reading : (h : ℕ) → (h ≡ 2 → ⊥) → (h ≡ 4 → ⊥) → (h ≡ 6 → ⊥) → Settles h true
 unfolding Settles settled of_phase writing_of reading_of
-in_none zero m a b f = refl
-in_none (suc zero) m a b f = refl
-in_none (suc (suc zero)) m a b f = absurd (m refl)
-in_none (suc (suc (suc zero))) m a b f = refl
-in_none (suc (suc (suc (suc zero)))) m a b f = absurd (a refl)
-in_none (suc (suc (suc (suc (suc zero))))) m a b f = refl
-in_none (suc (suc (suc (suc (suc (suc zero)))))) m a b f = absurd (b refl)
-in_none (suc (suc (suc (suc (suc (suc (suc zero))))))) m a b f = refl
-in_none (suc (suc (suc (suc (suc (suc (suc (suc h)))))))) m a b f = refl
+not_reading zero m a b f = refl
+not_reading (suc zero) m a b f = refl
+not_reading (suc (suc zero)) m a b f = absurd (m refl)
+not_reading (suc (suc (suc zero))) m a b f = refl
+not_reading (suc (suc (suc (suc zero)))) m a b f = absurd (a refl)
+not_reading (suc (suc (suc (suc (suc zero))))) m a b f = refl
+not_reading (suc (suc (suc (suc (suc (suc zero)))))) m a b f = absurd (b refl)
+not_reading (suc (suc (suc (suc (suc (suc (suc zero))))))) m a b f = refl
+not_reading (suc (suc (suc (suc (suc (suc (suc (suc h)))))))) m a b f = refl
 
-pub not_seven : (h : ℕ) → (h ≡ 7 → ⊥) → Decides h 0
+pub decides_in : (h r : ℕ) → r ≡ cond (eqb h 7) 1 0 → Decides h r
 unfolding Decides is_decided of_phase writing_of reading_of
-not_seven zero d f = refl
-not_seven (suc zero) d f = refl
-not_seven (suc (suc zero)) d f = refl
-not_seven (suc (suc (suc zero))) d f = refl
-not_seven (suc (suc (suc (suc zero)))) d f = refl
-not_seven (suc (suc (suc (suc (suc zero))))) d f = refl
-not_seven (suc (suc (suc (suc (suc (suc zero)))))) d f = refl
-not_seven (suc (suc (suc (suc (suc (suc (suc zero))))))) d f = absurd (d refl)
-not_seven (suc (suc (suc (suc (suc (suc (suc (suc h)))))))) d f = refl
+decides_in h r e = subst (Decides h) (sym e) (by h)
+  where
+    by : (h : ℕ) → Decides h (cond (eqb h 7) 1 0)
+    by zero f = refl
+    by (suc zero) f = refl
+    by (suc (suc zero)) f = refl
+    by (suc (suc (suc zero))) f = refl
+    by (suc (suc (suc (suc zero)))) f = refl
+    by (suc (suc (suc (suc (suc zero))))) f = refl
+    by (suc (suc (suc (suc (suc (suc zero)))))) f = refl
+    by (suc (suc (suc (suc (suc (suc (suc zero))))))) f = refl
+    by (suc (suc (suc (suc (suc (suc (suc (suc h)))))))) f =
+        let x : ℕ = suc (suc (suc (suc (suc (suc (suc (suc h))))))) in
+        ap (λ (t : Bool). cond t 1 0) (ne_eqb x 7 (λ e. omega arith))
 
 -- ---- at its place on a board
 
@@ -93,11 +85,13 @@ module _ (b : List ℕ) (j at : ℕ) (e : at ≡ record_at (get_or b 0 0) (get_o
 
   pub stops : (r : Bool) → Settles (get_or b at 0) r → not r ≡ true → j < get_or b 0 0 → false ≡ all_settled b
   unfolding all_settled stations
-  stops r h t l = every_fails (settled_at b) (get_or b 0 0) j l (no r _ (sym (settles r h)) t)
+  stops false h t l = every_fails (settled_at b) (get_or b 0 0) j l (settles false h)
+  stops true h t l = absurd (cc)
 
   pub settled_more : (r : Bool) → Settles (get_or b at 0) r → not r ≡ false → every j (settled_at b) ≡ true
       → every (j + 1) (settled_at b) ≡ true
-  settled_more r h t q = every_more (settled_at b) j q (yes r _ (sym (settles r h)) t)
+  settled_more true h t q = every_more (settled_at b) j q (settles true h)
+  settled_more false h t q = absurd (cc)
 
   pub decided_more : (x r : ℕ) → x ≡ count j (decided_at b) → Decides (get_or b at 0) r
       → x + r ≡ count (j + 1) (decided_at b)
@@ -116,3 +110,7 @@ module _ (b : List ℕ) (j : ℕ) (l : j ≤ get_or b 0 0) (m : get_or b 0 0 ≤
   pub all_counted : (x : ℕ) → x ≡ count j (decided_at b) → x ≡ decided_on b
   unfolding decided_on stations
   all_counted x q = count_end (decided_at b) (get_or b 0 0) j x l m q
+
+pub ruleset settling = (head_long, n_high, k_high, every_none, phase_inside, stops, settled_more, all_passed)
+
+pub ruleset deciding = (head_long, n_high, k_high, count_none, phase_inside, decided_more, decided_few, all_counted)

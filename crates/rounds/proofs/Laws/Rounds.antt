@@ -3,15 +3,14 @@
 -- played or taped.
 use Rattle.model.proofs.Kit.{◌≡◌, refl, sym, ap, subst, ◌∙◌, Bool, cond, List, [], ◌∷◌, ◌++◌, append_assoc, append-nil}
 use Rattle.model.proofs.Kit.{none, some, ℕ, zero, suc, ◌+◌, ◌≤◌, length, replicate, get_or, lt-ltb, arith}
-use Rattle.model.specs.declared.Verdict.{Verdict}
-use Rattle.model.specs.declared.Verdict.TheVariants as verdicts
-use Rattle.model.specs.declared.RoundsVerdict.TheVariants.{Played, Refused}
+use Rattle.std.specs.Prelude.{Ok, Err}
+use Rattle.model.specs.declared.refusal.Refusal as refusals
 use Rattle.model.specs.Calls.{After, stations, board_refusal, step_on, step}
 use Rattle.model.specs.Bytes.{names}
 use Rattle.model.specs.Rounds.{RoundsAnswer, played, in_turn, round_steps, rounds_steps, decided_on}
 use Rattle.model.specs.Rounds.{played_to, rounds_refusal, rounds}
 use Rattle.model.specs.Runs.{after}
-use Rattle.model.specs.Told.{verdict, rounds_told}
+use Rattle.model.specs.Told.{verdict, number, rounds_told}
 use Rattle.model.proofs.Calls.Refusals.{board_of_lem, board_passes}
 use Rattle.model.proofs.Calls.Runs.{after_on}
 use Rattle.model.proofs.Calls.Rounds as model
@@ -82,15 +81,14 @@ rounds_bytes b rs d p = p.bytes
 
 -- ---- what the refusals answered, as the code then finds it
 
-module _ (needs : ℕ) (b : List ℕ) (w : Verdict) (h : Refuses needs b w) (k : ℕ) (rs : List (List ℕ))
-    (e : halts.needs k rs ≡ needs) where
-  pub rounds_turned : (number : ℕ) → w ≡ verdicts.Refused number → rounds_refusal k rs b ≡ some number
+module _ (needs : ℕ) (b : List ℕ) (k : ℕ) (rs : List (List ℕ)) (e : halts.needs k rs ≡ needs) where
+  pub rounds_turned : (r : refusals.Refusal) → Refuses needs b (Err r) → rounds_refusal k rs b ≡ some (number r)
   unfolding Refuses verdict
-  rounds_turned number q = sym (h k rs e) ∙ ap verdict q
+  rounds_turned r h = sym (h k rs e)
 
-  pub rounds_passed : w ≡ verdicts.Accepted → rounds_refusal k rs b ≡ none
+  pub rounds_passed : (x : Unit {0}) → Refuses needs b (Ok x) → rounds_refusal k rs b ≡ none
   unfolding Refuses verdict
-  rounds_passed q = sym (h k rs e) ∙ ap verdict q
+  rounds_passed x h = sym (h k rs e)
 
 -- rounds that need just so many stations
 asking : ℕ → List (List ℕ)
@@ -102,11 +100,11 @@ unfolding asking halts.needs halts.round_needs halts.closed halts.climbs halts.c
 asking_needs zero = refl
 asking_needs (suc m) = rw (lt-ltb 0 (suc m) (omega arith)) (omega arith)
 
-module _ (needs : ℕ) (b : List ℕ) (w : Verdict) (h : Refuses needs b w) (q : w ≡ verdicts.Accepted) where
+module _ (needs : ℕ) (b : List ℕ) (x : Unit {0}) (h : Refuses needs b (Ok x)) where
   pub passed_sound : board_refusal b none ≡ none
   unfolding rounds_refusal
   passed_sound =
-      board_passes b (board_of_lem b _ (rounds_passed needs b w h 1 (asking needs) (asking_needs needs) q)).0 none
+      board_passes b (board_of_lem b _ (rounds_passed needs b 1 (asking needs) (asking_needs needs) x h)).0 none
 
   pub left_sound : (rs : List (List ℕ)) (d : List ℕ) → d ≡ after_rounds rs b → board_refusal d none ≡ none
   left_sound rs d e = (ran_then b [] b (rounds_steps (stations b) rs) d (ran_none b passed_sound) e).sound
@@ -115,28 +113,30 @@ module _ (needs : ℕ) (b : List ℕ) (w : Verdict) (h : Refuses needs b w) (q :
 
 module _ (k : ℕ) (rs : List (List ℕ)) (b : List ℕ) where
   -- refused: the number, and the board as it was
-  pub rounds_refused : (number : ℕ) → rounds_refusal k rs b ≡ some number
-      → (rounds_told (Refused number) ≡ (rounds k rs b).answer) × (b ≡ (rounds k rs b).bytes)
-  unfolding rounds_told
-  rounds_refused number e =
-      let q = sym (model.rounds_turned k rs b number e) in
-      (ap (λ (x : After RoundsAnswer). x.answer) q, ap (λ (x : After RoundsAnswer). x.bytes) q)
+  module _ (r : refusals.Refusal) (e : rounds_refusal k rs b ≡ some (number r)) where
+    pub refused_answer : rounds_told (Err r) ≡ (rounds k rs b).answer
+    unfolding rounds_told
+    refused_answer = ap (λ (x : After RoundsAnswer). x.answer) (sym (model.rounds_turned k rs b (number r) e))
+
+    pub refused_bytes : b ≡ (rounds k rs b).bytes
+    refused_bytes = ap (λ (x : After RoundsAnswer). x.bytes) (sym (model.rounds_turned k rs b (number r) e))
 
   -- played: how many rounds, how many stand decided, and the board that the single steps leave
-  pub rounds_played : (count : ℕ) (d : List ℕ) (decided : ℕ) → rounds_refusal k rs b ≡ none
-      → count ≡ length rs
-      → d ≡ after_rounds rs b
-      → decided ≡ decided_on d
-      → (rounds_told (Played count decided) ≡ (rounds k rs b).answer) × (d ≡ (rounds k rs b).bytes)
-  unfolding rounds_refusal rounds_told played_to
-  rounds_played count d decided e c h q = (
-    (λ i. played (c i) (q i)) ∙ ap (λ (x : List ℕ). played (length rs) (decided_on x)) left
-        ∙ ap (λ (x : After RoundsAnswer). x.answer) all,
-    left ∙ ap (λ (x : After RoundsAnswer). x.bytes) all,
-  )
-    where
-      all : played_to (length rs) (after step b (rounds_steps (stations b) rs)) ≡ rounds k rs b
-      all = sym (model.rounds_pass k rs b e)
+  module _ (d : List ℕ) (e : rounds_refusal k rs b ≡ none) (h : d ≡ after_rounds rs b) where
+    all : played_to (length rs) (after step b (rounds_steps (stations b) rs)) ≡ rounds k rs b
+    all = sym (model.rounds_pass k rs b e)
 
-      left : d ≡ after step b (rounds_steps (stations b) rs)
-      left = h ∙ sym (after_on (rounds_steps (stations b) rs) b (board_of_lem b _ e).0)
+    left : d ≡ after step b (rounds_steps (stations b) rs)
+    unfolding rounds_refusal
+    left = h ∙ sym (after_on (rounds_steps (stations b) rs) b (board_of_lem b _ e).0)
+
+    pub played_answer : (count decided : ℕ) → count ≡ length rs → decided ≡ decided_on d
+        → rounds_told (Ok (record { rounds = count; decided = decided })) ≡ (rounds k rs b).answer
+    unfolding rounds_told played_to
+    played_answer count decided c q =
+        (λ i. played (c i) (q i)) ∙ ap (λ (x : List ℕ). played (length rs) (decided_on x)) left
+        ∙ ap (λ (x : After RoundsAnswer). x.answer) all
+
+    pub played_bytes : d ≡ (rounds k rs b).bytes
+    unfolding played_to
+    played_bytes = left ∙ ap (λ (x : After RoundsAnswer). x.bytes) all

@@ -13,19 +13,14 @@ use Rattle.rounds.specs.Suspended.{suspended, Suspends, Adds}
 -- ---- one more
 
 module _ (halted : List Bool) (j : ℕ) (size : length halted ≡ 16) where
-  unknown : ((i : ℕ) → 1 ≤ i → i ≤ 16 → i ≡ j → ⊥) → Adds halted j halted
-  unknown f = record {
+  -- a number that no board's station has
+  pub left : (1 ≤ j → j ≤ 16 → ⊥) → Adds halted j halted
+  left f = record {
     size = size;
     holds =
-        λ i l h. sym (ap (λ (t : Bool). suspended halted i || t) (ne_eqb i j (f i l h))
+        λ i l h. sym (ap (λ (t : Bool). suspended halted i || t) (ne_eqb i j (λ e. f (omega arith) (omega arith)))
         ∙ or_none (suspended halted i));
   }
-
-  pub no_station : j < 1 → Adds halted j halted
-  no_station z = unknown (λ i l h e. omega arith)
-
-  pub above_all : 16 < j → Adds halted j halted
-  above_all z = unknown (λ i l h e. omega arith)
 
   module _ (low : 1 ≤ j) (high : j ≤ 16) where
     entry : (i : ℕ) → 1 ≤ i → suspended (set halted (j - 1) true) i ≡ suspended halted i || eqb i j
@@ -39,6 +34,8 @@ module _ (halted : List Bool) (j : ℕ) (size : length halted ≡ 16) where
 
     pub added : Adds halted j (set halted (j - 1) true)
     added = record { size = simp length-set size; holds = λ i l h. entry i l }
+
+pub ruleset adding = (left, added)
 
 -- ---- as many as a round names
 
@@ -71,3 +68,5 @@ module _ (named : List ℕ) where
   pub suspends_all : (halted : List Bool) (i : ℕ) → length named ≤ i → Suspends halted (take i named)
       → Suspends halted named
   suspends_all halted i l s = rw (take_all i named l) at s
+
+pub ruleset naming = (suspends_none, suspends_size, suspends_all)

@@ -6,7 +6,8 @@ use Rattle.model.proofs.Kit.{◌≤◌, replicate, get_or, add-one, arith}
 use Rattle.model.specs.Calls.{stations, board_refusal, step_on}
 use Rattle.model.specs.Rounds.{in_turn}
 use Rattle.model.specs.Runs.{after}
-use Rattle.stepping.proofs.Laws.Repeated.{Ran, ran_none, ran_then}
+use Rattle.soundness.proofs.Laws.Placing.{head_long, n_high}
+use Rattle.stepping.proofs.Laws.Repeated.{Ran, ran_none, ran_then, ran_sound}
 use Rattle.rounds.specs.Suspended.{suspended}
 use Rattle.rounds.specs.Rounds.{after_turns}
 
@@ -41,12 +42,14 @@ module _ (b : List ℕ) (halted : List Bool) (steps : ℕ) where
   unfolding in_turn
   turns_begun s = ran_none b s
 
-  pub one_turn_more : (j : ℕ) (d e : List ℕ) → Ran b (in_turn steps j (suspended halted)) d
-      → e ≡ after step_on d (cond (get_or halted j false) [] (replicate steps (j + 1)))
+  -- the code reads the entry of the index as a wider number
+  pub one_turn_more : (j index : ℕ) (d e : List ℕ) → Ran b (in_turn steps j (suspended halted)) d → index ≡ j
+      → e ≡ after step_on d (cond (get_or halted index false) [] (replicate steps (j + 1)))
       → Ran b (in_turn steps (j + 1) (suspended halted)) e
-  one_turn_more j d e r h =
+  one_turn_more j index d e r same h =
       subst (λ (l : List ℕ). Ran b l e) (sym (turns_more steps j halted))
-      (ran_then b (in_turn steps j (suspended halted)) d _ e r h)
+      (ran_then b (in_turn steps j (suspended halted)) d _ e r
+      (h ∙ ap (λ (k : ℕ). after step_on d (cond (get_or halted k false) [] (replicate steps (j + 1)))) same))
 
   pub turns_ended : (j : ℕ) (d : List ℕ) → Ran b (in_turn steps j (suspended halted)) d → j ≤ get_or b 0 0
       → get_or b 0 0 ≤ j
@@ -55,3 +58,9 @@ module _ (b : List ℕ) (halted : List Bool) (steps : ℕ) where
   turns_ended j d r l m =
       let e : j ≡ get_or b 0 0 = omega arith in
       r.bytes ∙ ap (λ (k : ℕ). after step_on b (in_turn steps k (suspended halted))) e
+
+pub ruleset turning = (turn_passed, turn_taken)
+
+pub ruleset turns = (head_long, n_high, ran_sound, turns_begun, turns_ended)
+
+pub ruleset heads = (head_long, n_high)

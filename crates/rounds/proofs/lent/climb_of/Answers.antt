@@ -1,12 +1,8 @@
-use Rattle.model.proofs.Kit.{arith}
-use Rattle.rounds.proofs.Laws.Lent.{climb_begun, climb_more, climb_all}
+use Rattle.std.proofs.Common.{rules, ◌≡◌, ◌∙◌}
+use Rattle.std.specs.List.{fold}
+use Rattle.halts.specs.Needs.{climb}
+use Rattle.rounds.proofs.Laws.Lent.{climbs_fold}
 use Rattle.rounds.proofs.lent.climb_of.Goals as goal
 
-pub loop-i-init : goal.loop-i-init
-loop-i-init c = (omega arith, climb_begun)
-
-pub loop-i-preserved : goal.loop-i-preserved
-loop-i-preserved c = (omega arith, search climb_more)
-
 pub returns : goal.returns
-returns c = search climb_all
+returns c = let h : c.fold.result ≡ fold climb 0 c.args.named.now = search rules in h ∙ climbs_fold 0 _

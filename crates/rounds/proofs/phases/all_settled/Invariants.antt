@@ -1,11 +1,8 @@
 -- `phases::all_settled`: the loop passes the stations in the middle of no collect; each turn is one law of Phases.
-use Rattle.model.proofs.Kit.{◌≡◌, true, ◌-◌, ◌≤◌}
+use Rattle.model.proofs.Kit.{◌≡◌, true}
 use Rattle.model.specs.Bytes.{every}
 use Rattle.rounds.proofs.Laws.Phases.{settled_at}
 use Rattle.rounds.proofs.phases.all_settled.Given as goal
 
 abbrev pub invariant-loop-j : goal.invariant-loop-j
-invariant-loop-j l = (l.j ≤ l.n) × (every l.j (settled_at l.board) ≡ true)
-
-abbrev pub decreases-loop-j : goal.decreases-loop-j
-decreases-loop-j l = l.n - l.j
+invariant-loop-j l = every l.j (settled_at l.board) ≡ true

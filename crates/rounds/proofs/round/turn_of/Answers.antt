@@ -1,9 +1,0 @@
--- `round::turn_of`: a suspended station is passed over.
-use Rattle.rounds.proofs.Laws.Turns.{turn_passed, turn_taken}
-use Rattle.rounds.proofs.round.turn_of.Goals as goal
-
-pub returns-then-halted : goal.returns-then-halted
-returns-then-halted c = search turn_passed
-
-pub returns : goal.returns
-returns c = search turn_taken
