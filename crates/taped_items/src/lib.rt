@@ -4,78 +4,43 @@
 // tape of a line relies on it.
 #![tactic(auto)]
 
-ghost use Rattle.std.specs.Prelude.{◌≡◌, ◌<◌};
-ghost use Rattle.item_walks.specs.ItemWalks.{ItemReads, ItemsRead, repeat_after};
+ghost use Rattle.item_walks.specs.ItemWalks.{ItemReads, ItemsRead};
 ghost use Rattle.taping.specs.Taping.{taping, Ready};
-ghost use Rattle.taped_items.specs.TapedItems.{idle, ItemTapes, ItemsTape};
+ghost use Rattle.taped_items.specs.TapedItems.{ItemTapes, ItemsTape};
 
+use lexer::At;
 use lexer::known::known_number;
 use taping::Taped;
 use taping::single::tape_step;
 
-// What is still to do afterwards, and the place after the items.
-#[derive(Clone, Copy)]
-pub struct PartTaped {
-    pub left: usize,
-    pub room: usize,
-    pub len: usize,
-    pub next: usize,
-}
-
-// The repeat after repeat i of some, by what was to do before it and after it. Where that is the same, the repeat changed
-// nothing, and neither would a later one: those are passed over.
-fn repeat_after(i: u32, repeats: u32, before: Taped, after: PartTaped) -> u32
-    requires { i < repeats }
-    ensures { result ≡ repeat_after (idle before after) i repeats }
-{
-    if after.left != before.left {
-        return i + 1;
-    }
-    if after.room != before.room {
-        return i + 1;
-    }
-    repeats
-}
-
 // The item at `at`.
 #[cycle(tape_item_tape_items)]
-fn tape_item(board: &mut [u8], line: &[u8], at: usize, out: &mut [u8], taped: Taped) -> PartTaped
+fn tape_item(board: &mut [u8], line: &[u8], at: usize, out: &mut [u8], taped: Taped) -> At<Taped>
     requires { Ready (taping board.old out.old taped) × ItemReads line.now at }
     ensures { ItemTapes line.now at (taping board.old out.old taped) result board.new out.new }
 {
     if line[at] != b'(' {
         let station = known_number(line, at);
-        let after = tape_step(board, station.value as u8, out, taped);
-        return PartTaped {
-            left: after.left,
-            room: after.room,
-            len: after.len,
+        return At {
+            value: tape_step(board, station.value as u8, out, taped),
             next: station.next,
         };
     }
     let word = b"(times ";
     let times = known_number(line, at + word.len());
-    let repeats = times.value;
     let inner = times.next;
     let mut done = taped;
     let mut next = inner;
-    let mut i = 0;
-    while i < repeats {
+    for _ in 0..times.value {
         let part = tape_items(board, line, inner, out, done);
-        i = repeat_after(i, repeats, done, part);
-        done = Taped {
-            left: part.left,
-            room: part.room,
-            len: part.len,
-        };
         next = part.next;
+        // A repeat that leaves as much to do as before changed nothing, and neither would a later one.
+        if part.value == done {
+            break;
+        }
+        done = part.value;
     }
-    PartTaped {
-        left: done.left,
-        room: done.room,
-        len: done.len,
-        next,
-    }
+    At { value: done, next }
 }
 
 // The items from `at` on, up to the closing bracket.
@@ -86,7 +51,7 @@ pub fn tape_items(
     at: usize,
     out: &mut [u8],
     taped: Taped,
-) -> PartTaped
+) -> At<Taped>
     requires { Ready (taping board.old out.old taped) × ItemsRead line.now at }
     ensures { ItemsTape line.now at (taping board.old out.old taped) result board.new out.new }
 {
@@ -94,17 +59,11 @@ pub fn tape_items(
     let mut place = at;
     while line[place] == b' ' {
         let part = tape_item(board, line, place + 1, out, done);
-        done = Taped {
-            left: part.left,
-            room: part.room,
-            len: part.len,
-        };
+        done = part.value;
         place = part.next;
     }
-    PartTaped {
-        left: done.left,
-        room: done.room,
-        len: done.len,
+    At {
+        value: done,
         next: place + 1,
     }
 }

@@ -1,11 +1,11 @@
-use Rattle.model.proofs.Kit.{rules, arith}
+use Rattle.model.proofs.Kit.{sym, ◌∙◌, rules, arith}
 use Rattle.item_reader.proofs.Laws.Items.{falls_to}
 use Rattle.item_walks.proofs.Laws.Items.{item_inside, station_stands, station-fits, one_step}
-use Rattle.item_walks.proofs.Laws.Repeats.{repeats_stand, times_behind, repeats_begin, repeats_end, fewer_left}
+use Rattle.item_walks.proofs.Laws.Repeats.{repeats_stand, times_behind, repeats_begin, repeats_end, repeats_whole}
 use Rattle.item_walks.proofs.Laws.Passing.{passed_begin, passed_inside, next_behind, at_inside, item_reads}
 use Rattle.item_walks.proofs.Laws.Passing.{passed_less, passed_end}
 use Rattle.taped_items.proofs.Laws.TapeItems.{taped_none, taped_one_lem, taped_ready, taped_board, taped_out}
-use Rattle.taped_items.proofs.Laws.TapeItems.{repeat_on, passed_more}
+use Rattle.taped_items.proofs.Laws.TapeItems.{repeat_on, repeat_idle, passed_more}
 use Rattle.taped_items.proofs.+tape_item_tape_items.Goals as goal
 
 pub tape_item-bounds-line-at : goal.tape_item-bounds-line-at
@@ -23,26 +23,22 @@ tape_item-returns-then-line-at-ne40 t c = search (one_step, taped_one_lem)
 pub tape_item-known_number-times-requires : goal.tape_item-known_number-times-requires
 tape_item-known_number-times-requires t c = repeats_stand _ _ c.if-line-at-ne40.false (search)
 
-pub tape_item-loop-i-init : goal.tape_item-loop-i-init
-tape_item-loop-i-init t c = search (repeats_begin, taped_none)
+pub tape_item-loop-init : goal.tape_item-loop-init
+tape_item-loop-init t c = search (repeats_begin, taped_none)
 
 pub tape_item-tape_items-part-requires : goal.tape_item-tape_items-part-requires
 tape_item-tape_items-part-requires t c = (search (falls_to, times_behind, item_inside), (search taped_ready, search rules))
 
-pub tape_item-loop-i-smaller : goal.tape_item-loop-i-smaller
-tape_item-loop-i-smaller t c = search fewer_left
+pub tape_item-loop-preserved : goal.tape_item-loop-preserved
+tape_item-loop-preserved t c = search repeat_on
 
-pub tape_item-loop-i-preserved : goal.tape_item-loop-i-preserved
-tape_item-loop-i-preserved t c = search repeat_on
+pub tape_item-returns-then-eq : goal.tape_item-returns-then-eq
+tape_item-returns-then-eq t c =
+    repeats_whole _ _ (search) c.requires.1 _ c.known_number-times.ensures _ _
+    (repeat_idle _ _ _ _ _ _ _ _ _ c.loop.invariant (search) _ _ _ c.tape_items-part.ensures (sym c.if-eq.true ∙ c.eq.ensures))
 
-pub tape_item-shape_of-board : goal.tape_item-shape_of-board
-tape_item-shape_of-board t c = search taped_board
-
-pub tape_item-shape_of-out : goal.tape_item-shape_of-out
-tape_item-shape_of-out t c = search taped_out
-
-pub tape_item-returns : goal.tape_item-returns
-tape_item-returns t c = search repeats_end
+pub tape_item-returns-after-loop : goal.tape_item-returns-after-loop
+tape_item-returns-after-loop t c = search repeats_end
 
 pub tape_items-loop-place-init : goal.tape_items-loop-place-init
 tape_items-loop-place-init t c = search (passed_begin, taped_none)

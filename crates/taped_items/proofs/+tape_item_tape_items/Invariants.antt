@@ -14,13 +14,10 @@ decreases-tape_item l = length l.line.now - l.at
 abbrev pub decreases-tape_items : goal.decreases-tape_items
 decreases-tape_items l = length l.line.now - l.at
 
-abbrev pub invariant-tape_item-loop-i : goal.invariant-tape_item-loop-i
-invariant-tape_item-loop-i l =
-    Repeats (TapedFrom (taping l.initial.board l.initial.out l.initial.done) (taping l.board l.out l.done)) l.line l.repeats
-    l.inner l.next l.i
-
-abbrev pub decreases-tape_item-loop-i : goal.decreases-tape_item-loop-i
-decreases-tape_item-loop-i l = l.repeats - l.i
+abbrev pub invariant-tape_item-loop : goal.invariant-tape_item-loop
+invariant-tape_item-loop l =
+    Repeats (TapedFrom (taping l.initial.board l.initial.out l.initial.done) (taping l.board l.out l.done)) l.line l.end
+    l.inner l.next l.counter
 
 abbrev pub invariant-tape_items-loop-place : goal.invariant-tape_items-loop-place
 invariant-tape_items-loop-place l =

@@ -1,20 +1,20 @@
 -- Items taped as they stand in a line: steps taped behind steps, and a repeat that changes nothing.
 -- Relies on the laws of items gone over and of steps taped one after another; the proofs of the crate and the
 -- tape of a line rely on it.
-use Rattle.model.proofs.Kit.{◌≡◌, refl, sym, ap, subst, ◌∙◌, true, false, List, [], ◌∷◌, ◌++◌, ℕ, ◌+◌}
-use Rattle.model.proofs.Kit.{◌<◌, eqb, eqb-true, eq-eqb, ne_eqb, length, drop, get_or}
+use Rattle.model.proofs.Kit.{◌≡◌, refl, sym, ap, subst, ◌∙◌, true, T, ◌&&◌, List, [], ◌∷◌, ◌++◌, ℕ, ◌+◌}
+use Rattle.model.proofs.Kit.{◌<◌, eqb, eqb→eq, length, drop, get_or}
 use Rattle.model.specs.Forms.{Items, repeated, expand, found, items_in}
-use Rattle.model.proofs.Basics.Tests.{and_false, both_true}
-use Rattle.item_walks.specs.ItemWalks.{PartDone, repeat_after}
+use Rattle.model.proofs.Basics.Tests.{true-T, and_l, and_r}
+use Rattle.item_walks.specs.ItemWalks.{PartDone}
 use Rattle.item_walks.proofs.Laws.Repeats as walks
 use Rattle.item_walks.proofs.Laws.Repeats.{Repeats}
 use Rattle.item_walks.proofs.Laws.Passing as passing
 use Rattle.item_walks.proofs.Laws.Passing.{Passed}
+use Rattle.lexer.specs.declared.At.{At}
 use Rattle.taping.specs.declared.Taped.{Taped}
 use Rattle.taping.specs.Taping.{Taping, taping, taped_one, taped_steps, Ready}
 use Rattle.taping.proofs.Laws.Steps.{Kept, steps_kept_lem, steps_append, unchanged, repeated_unchanged}
-use Rattle.taped_items.specs.declared.PartTaped.{PartTaped}
-use Rattle.taped_items.specs.TapedItems.{idle, TapedFrom, part_taped, ItemTapes, ItemsTape}
+use Rattle.taped_items.specs.TapedItems.{TapedFrom, part_taped, ItemTapes, ItemsTape}
 
 -- ---- from a state to another
 
@@ -57,41 +57,51 @@ taped_again s t l r is h j =
 
 -- ---- the repeats of an item
 
-module _ (before : Taped) (after : PartTaped) where
-  pub other_left : (after.left ≡ before.left → ⊥) → idle before after ≡ false
-  unfolding idle
-  other_left f = rw (ne_eqb after.left before.left f)
+-- what the test for equality says
+same_todo : (v t : Taped) → true ≡ eqb v.left t.left && (eqb v.room t.room && eqb v.len t.len) → v ≡ t
+same_todo v t same = λ j. record { left = left j; room = room j; len = len j }
+  where
+    all : T (eqb v.left t.left && (eqb v.room t.room && eqb v.len t.len))
+    all = true-T _ (sym same)
 
-  pub other_room : (after.room ≡ before.room → ⊥) → idle before after ≡ false
-  unfolding idle
-  other_room f = rw (ne_eqb after.room before.room f, and_false)
+    left : v.left ≡ t.left
+    left = eqb→eq v.left t.left (and_l _ _ all)
 
-  pub same_todo : after.left ≡ before.left → after.room ≡ before.room → idle before after ≡ true
-  unfolding idle
-  same_todo e f = rw (eq-eqb after.left before.left e, eq-eqb after.room before.room f)
+    rest : T (eqb v.room t.room && eqb v.len t.len)
+    rest = and_r (eqb v.left t.left) _ all
 
-  idle_same : idle before after ≡ true → (after.left ≡ before.left) × (after.room ≡ before.room)
-  unfolding idle
-  idle_same e =
-      let p = both_true (eqb after.left before.left) (eqb after.room before.room) e in
-      (eqb-true after.left before.left p.0, eqb-true after.room before.room p.1)
+    room : v.room ≡ t.room
+    room = eqb→eq v.room t.room (and_l _ _ rest)
 
-pub repeat_on : (s : Taping) (line : List ℕ) (k inner : ℕ) (b out : List ℕ) (t : Taped) (place i : ℕ)
-    → Repeats (TapedFrom s (taping b out t)) line k inner place i → i < k
-    → (w : PartTaped) (d p : List ℕ) → ItemsTape line inner (taping b out t) w d p
-    → (r : ℕ) → r ≡ repeat_after (idle t w) i k
-    → Repeats (TapedFrom s (part_taped d p w)) line k inner w.next r
-repeat_on s line k inner b out t place i repeats more w d p tapes =
-    walks.repeat_on (TapedFrom s (taping b out t)) (TapedFrom (taping b out t) (part_taped d p w))
-    (TapedFrom s (part_taped d p w)) (taped_then s (taping b out t) (part_taped d p w))
-    line k inner place i repeats more w.next tapes (idle t w)
-    (λ e. let same = idle_same t w e in taped_again (taping b out t) (part_taped d p w) same.0 same.1)
+    len : v.len ≡ t.len
+    len = eqb→eq v.len t.len (and_r (eqb v.room t.room) _ rest)
+
+module _ (s : Taping) (line : List ℕ) (k inner : ℕ) (b out : List ℕ) (t : Taped) (place i : ℕ)
+    (repeats : Repeats (TapedFrom s (taping b out t)) line k inner place i) (more : i < k)
+    (w : At Taped) (d p : List ℕ) (tapes : ItemsTape line inner (taping b out t) w d p) where
+  -- another repeat
+  pub repeat_on : Repeats (TapedFrom s (part_taped d p w)) line k inner w.next (i + 1)
+  repeat_on =
+      walks.repeat_more (TapedFrom s (taping b out t)) (TapedFrom (taping b out t) (part_taped d p w))
+      (TapedFrom s (part_taped d p w)) (taped_then s (taping b out t) (part_taped d p w))
+      line k inner place i repeats more w.next tapes
+
+  -- one that leaves as much to do as before stands for all that are left
+  pub repeat_idle : true ≡ eqb w.value.left t.left && (eqb w.value.room t.room && eqb w.value.len t.len)
+      → Repeats (TapedFrom s (taping d p t)) line k inner w.next k
+  repeat_idle same =
+      let e = same_todo w.value t same in
+      subst (λ (v : Taped). Repeats (TapedFrom s (taping d p v)) line k inner w.next k) e
+      (walks.repeats_idle (TapedFrom s (taping b out t)) (TapedFrom (taping b out t) (part_taped d p w))
+      (TapedFrom s (part_taped d p w)) (taped_then s (taping b out t) (part_taped d p w))
+      line k inner place i repeats more w.next tapes
+      (taped_again (taping b out t) (part_taped d p w) (ap (λ (v : Taped). v.left) e) (ap (λ (v : Taped). v.room) e)))
 
 -- ---- a list of items
 
 pub passed_more : (s : Taping) (line : List ℕ) (at : ℕ) (b out : List ℕ) (t : Taped) (place : ℕ)
     → Passed (TapedFrom s (taping b out t)) line at place → get_or line place 0 ≡ 32
-    → (w : PartTaped) (d p : List ℕ) → ItemTapes line (place + 1) (taping b out t) w d p
+    → (w : At Taped) (d p : List ℕ) → ItemTapes line (place + 1) (taping b out t) w d p
     → Passed (TapedFrom s (part_taped d p w)) line at w.next
 passed_more s line at b out t place passed space w d p tapes =
     passing.passed_more (TapedFrom s (taping b out t)) line at place passed space
@@ -100,7 +110,7 @@ passed_more s line at b out t place passed space w d p tapes =
 
 -- ---- the state behind a list of items that was read
 
-pub items_taped : (line : List ℕ) (at : ℕ) (s : Taping) (r : PartTaped) (d out : List ℕ) → ItemsTape line at s r d out
+pub items_taped : (line : List ℕ) (at : ℕ) (s : Taping) (r : At Taped) (d out : List ℕ) → ItemsTape line at s r d out
     → (fuel : ℕ) (is : Items) (rest : List ℕ) → items_in fuel (drop at line) ≡ found is rest
     → part_taped d out r ≡ taped_steps (expand is) s
 unfolding PartDone TapedFrom
