@@ -8,29 +8,25 @@ ghost use Rattle.std.proofs.Math.Option.{none};
 ghost use Rattle.model.specs.Calls.{board_refusal};
 ghost use Rattle.line_rounds.specs.LineRounds.{RoundStands, RoundIs, RoundsStand, RoundsPlay, LineHas, PlaysLine};
 
+use lexer::At;
 use lexer::known::known_number;
-use model::{RoundsVerdict, Verdict};
+use model::RoundsPlayed;
+use model::refusal::Refusal;
 use rounds::phases::decided_on;
 use rounds::refusing::rounds_refusal;
 use rounds::round::play_round;
 use rounds::suspending::suspend;
 
-// The stations that a round suspends, as a set, and the place after the round.
-#[derive(Clone, Copy)]
-pub struct RoundAt {
-    pub halted: [bool; 16],
-    pub next: usize,
-}
-
-// The round whose bracket opens at `at`. One byte stands before each number, the bracket or a space.
-pub fn round_at(line: &[u8], at: usize) -> RoundAt
+// The round whose bracket opens at `at`: the set of the stations that it suspends, and the place after it. One byte stands before
+// each number, the bracket or a space.
+pub fn round_at(line: &[u8], at: usize) -> At<[bool; 16]>
     requires { RoundStands line.now at }
     ensures { RoundIs line.now at result }
 {
-    let mut halted: [bool; 16] = [false; 16];
+    let mut halted = [false; 16];
     if line[at + 1] == b')' {
-        return RoundAt {
-            halted,
+        return At {
+            value: halted,
             next: at + 2,
         };
     }
@@ -40,8 +36,8 @@ pub fn round_at(line: &[u8], at: usize) -> RoundAt
         suspend(&mut halted, station.value as u8);
         place = station.next;
     }
-    RoundAt {
-        halted,
+    At {
+        value: halted,
         next: place + 1,
     }
 }
@@ -54,34 +50,29 @@ fn play_rounds_at(board: &mut [u8], line: &[u8], at: usize)
     let mut place = at;
     while line[place] == b' ' {
         let round = round_at(line, place + 1);
-        let halted = round.halted;
-        play_round(board, halted);
+        play_round(board, round.value);
         place = round.next;
     }
 }
 
 // A line that was read as `rounds` with so many rounds, for which a board must have `needs` stations, on a lent board. The
 // number that bounds a round's stations stands behind the space at `at`, and was tested when the line was read.
+#[tactic(auto, using(crate::proofs::Laws::WholeLine::line))]
 pub fn play_rounds_line(
     board: &mut [u8],
     line: &[u8],
     at: usize,
     rounds: usize,
     needs: u8,
-) -> RoundsVerdict
+) -> Result<RoundsPlayed, Refusal>
     requires { LineHas line.now at rounds needs }
     ensures { PlaysLine line.now board.old result board.new }
 {
-    let checked = rounds_refusal(board, needs);
-    match checked {
-        Verdict::Refused { number } => RoundsVerdict::Refused { number },
-        Verdict::Accepted => {
-            let most = known_number(line, at + 1);
-            play_rounds_at(board, line, most.next);
-            RoundsVerdict::Played {
-                rounds,
-                decided: decided_on(board),
-            }
-        }
-    }
+    rounds_refusal(board, needs)?;
+    let most = known_number(line, at + 1);
+    play_rounds_at(board, line, most.next);
+    Ok(RoundsPlayed {
+        rounds,
+        decided: decided_on(board),
+    })
 }

@@ -2,7 +2,7 @@
 -- at the end of all of them; for anything that holds of rounds, as that they were played or taped.
 -- Relies on the walk along a list in a line and on rounds played; the proof of `play_rounds_at` relies on it, and so
 -- does that of the rounds taped.
-use Rattle.model.proofs.Kit.{◌≡◌, subst, List, [], ◌∷◌, ◌++◌, none, ℕ, ◌+◌, ◌-◌, ◌<◌, length, drop, get_or, arith}
+use Rattle.model.proofs.Kit.{◌≡◌, subst, Bool, List, [], ◌∷◌, ◌++◌, none, ℕ, ◌+◌, ◌-◌, ◌<◌, length, drop, get_or, arith}
 use Rattle.model.specs.Calls.{board_refusal}
 use Rattle.model.specs.Forms.{found, round_in, rounds_in}
 use Rattle.model.specs.Grammar.{written_round}
@@ -11,7 +11,7 @@ use Rattle.list_laws.proofs.Laws.Walks.{Kind, Walk, walk_begun, walk_inside, wal
 use Rattle.rounds.specs.Suspended.{Suspends}
 use Rattle.rounds.specs.Rounds.{after_round}
 use Rattle.rounds.proofs.Laws.Rounds.{RanRounds, one_round_more, rounds_sound, rounds_bytes}
-use Rattle.line_rounds.specs.declared.RoundAt.{RoundAt}
+use Rattle.lexer.specs.declared.At.{At}
 use Rattle.line_rounds.specs.LineRounds.{RoundStands, RoundRead, RoundIs, RoundsStand, RoundsPlay}
 
 pub round_kind : Kind (List ℕ)
@@ -59,7 +59,7 @@ module _ (line : List ℕ) (at : ℕ) (P : List (List ℕ) → Type 0) where
           let n = next round_kind line at passed.past place passed.walk more in
           record { round = n.thing; rest = _; read = n.read }
 
-      module _ (r : RoundAt) (round_is : RoundIs line (place + 1) r) where
+      module _ (r : At (List Bool)) (round_is : RoundIs line (place + 1) r) where
         there : RoundRead line (place + 1) round
             (Behind round_kind line at passed.past place passed.walk more) r
         unfolding RoundIs round_kind round
@@ -70,7 +70,7 @@ module _ (line : List ℕ) (at : ℕ) (P : List (List ℕ) → Type 0) where
 
         -- and Q holds with one round more
         pub passed_more : (Q : List (List ℕ) → Type 0)
-            → ((rs : List (List ℕ)) (one : List ℕ) → P rs → Suspends r.halted one → Q (rs ++ (one ∷ [])))
+            → ((rs : List (List ℕ)) (one : List ℕ) → P rs → Suspends r.value one → Q (rs ++ (one ∷ [])))
             → Passed line at Q r.next
         unfolding round
         passed_more Q f = record {
@@ -90,9 +90,9 @@ module _ (line : List ℕ) (at : ℕ) (b d : List ℕ) (place : ℕ)
   unfolding RoundsPlay
   played_all closed rs rest e = rounds_bytes b rs d (passed_all line at _ place passed closed rs rest e)
 
-  pub played_more : get_or line place 0 ≡ 32 → (r : RoundAt) → RoundIs line (place + 1) r
-      → (e : List ℕ) → e ≡ after_round r.halted d
+  pub played_more : get_or line place 0 ≡ 32 → (r : At (List Bool)) → RoundIs line (place + 1) r
+      → (e : List ℕ) → e ≡ after_round r.value d
       → Passed line at (RanRounds b e) r.next
   played_more more r round_is e q =
       passed_more line at _ place passed more r round_is _
-      (λ rs one p s. one_round_more b rs d r.halted one e p s q)
+      (λ rs one p s. one_round_more b rs d r.value one e p s q)

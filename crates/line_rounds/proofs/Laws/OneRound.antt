@@ -13,7 +13,7 @@ use Rattle.model.proofs.Sheet.Readers.{Always}
 use Rattle.model.proofs.Sheet.Numbers.{decimal_begins}
 use Rattle.model.proofs.Sheet.NumbersBack.{Stood}
 use Rattle.model.proofs.Sheet.Lists.{Stations, station_read, list_stops, round_regrouped, round_stood}
-use Rattle.lexer.specs.declared.known.KnownNumber.{KnownNumber}
+use Rattle.lexer.specs.declared.At.{At}
 use Rattle.lexer.specs.Known.{NumberStands, KnownIs}
 use Rattle.lexer.proofs.Laws.Given.{found_one}
 use Rattle.lexer.proofs.Laws.Known.{stands_there, known_found}
@@ -68,12 +68,12 @@ module _ (line : List ℕ) (at : ℕ) where
 
   -- `()`
   pub round_empty : get_or line (at + 1) 0 ≡ 41 → (halted : List Bool) → Suspends halted []
-      → RoundIs line at (record { halted = halted; next = at + 2 })
+      → RoundIs line at (record { value = halted; next = at + 2 })
   unfolding RoundIs
   round_empty q halted none_yet round rest e = by round (round_text (drop at line) round rest e).0
     where
       by : (round : List ℕ) → drop at line ≡ written_round round ++ rest
-          → RoundRead line at round rest (record { halted = halted; next = at + 2 })
+          → RoundRead line at round rest (record { value = halted; next = at + 2 })
       by [] t = unfold written_round text text_from in record {
         set = none_yet;
         follows = sym (drop-drop 2 at line) ∙ ap (drop 2) t;
@@ -133,7 +133,7 @@ module _ (line : List ℕ) (at : ℕ) (halted : List Bool) (place : ℕ) (along 
   set_size = along.set.size
 
   -- the closing bracket: no station is left
-  pub closed : get_or line place 0 ≡ 41 → RoundIs line at (record { halted = halted; next = place + 1 })
+  pub closed : get_or line place 0 ≡ 41 → RoundIs line at (record { value = halted; next = place + 1 })
   unfolding RoundIs
   closed q round rest e = by along.left along.here along.is
     where
@@ -141,7 +141,7 @@ module _ (line : List ℕ) (at : ℕ) (halted : List Bool) (place : ℕ) (along 
       same = found_one _ _ _ _ (sym along.read ∙ e)
 
       by : (left : List ℕ) → Left (drop place line) left along.rest → along.round ≡ along.past ++ left
-          → RoundRead line at round rest (record { halted = halted; next = place + 1 })
+          → RoundRead line at round rest (record { value = halted; next = place + 1 })
       by [] h is = record {
         set = subst (Suspends halted) (sym (append-nil along.past) ∙ sym is ∙ same.0) along.set;
         follows = sym (behind_first line place) ∙ ap (drop 1) h ∙ same.1;
@@ -182,7 +182,7 @@ module _ (line : List ℕ) (at : ℕ) (halted : List Bool) (place : ℕ) (along 
     unfolding found
     station_stands = stands_there line (place + 1) 0 99 (omega arith) _ next.number
 
-    module _ (n : KnownNumber) (known : KnownIs line (place + 1) n) where
+    module _ (n : At ℕ) (known : KnownIs line (place + 1) n) where
       read_there : (n.value ≡ next.station)
           × (drop n.next line ≡ written_list decimal next.later ++ (41 ∷ along.rest))
       unfolding found

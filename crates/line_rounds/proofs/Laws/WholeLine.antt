@@ -3,9 +3,8 @@
 -- `play_rounds_line` relies on it.
 use Rattle.model.proofs.Kit.{◌≡◌, refl, sym, ap, subst, ◌∙◌, List, [], ◌∷◌, ◌++◌, none, ℕ, ◌+◌, ◌≤◌}
 use Rattle.model.proofs.Kit.{length, drop, length-append, arith}
-use Rattle.model.specs.declared.Verdict.{Verdict}
-use Rattle.model.specs.declared.Verdict.TheVariants as verdicts
-use Rattle.model.specs.declared.RoundsVerdict.TheVariants as byRound
+use Rattle.std.specs.Prelude.{Ok, Err}
+use Rattle.model.specs.declared.refusal.Refusal.{Refusal}
 use Rattle.model.specs.Calls.{board_refusal}
 use Rattle.model.specs.Forms as forms
 use Rattle.model.specs.Forms.{found, number_in, rounds_in, up_to_stop, first_word, word_place, reads, read_line}
@@ -15,7 +14,7 @@ use Rattle.model.specs.Show.{text, text_from, decimal}
 use Rattle.model.proofs.Sheet.Lists.{station_read, list_stops, no_more, rounds_read}
 use Rattle.model.proofs.Sheet.WrittenBack.{LineStood, line_stood}
 use Rattle.halts.specs.Needs as halts
-use Rattle.lexer.specs.declared.known.KnownNumber.{KnownNumber}
+use Rattle.lexer.specs.declared.At.{At}
 use Rattle.lexer.specs.Known.{NumberStands, KnownIs}
 use Rattle.lexer.proofs.Laws.Given.{found_one}
 use Rattle.lexer.proofs.Laws.Known.{stands_there, known_found, known_inside}
@@ -24,7 +23,8 @@ use Rattle.sheet.specs.declared.form.LineForm.TheVariants.{Rounds}
 use Rattle.sheet.specs.LineForms.{line_form}
 use Rattle.sheet.proofs.Laws.Readings.{read_as_lem, not_long}
 use Rattle.rounds.specs.Asked.{Refuses}
-use Rattle.rounds.proofs.Laws.Rounds.{rounds_turned, rounds_passed, left_sound, rounds_refused, rounds_played}
+use Rattle.rounds.proofs.Laws.Rounds.{rounds_turned, rounds_passed, passed_sound, left_sound, refused_answer}
+use Rattle.rounds.proofs.Laws.Rounds.{refused_bytes, played_answer, played_bytes}
 use Rattle.line_rounds.specs.LineRounds.{RoundsStand, RoundsPlay, LineHas, PlaysLine}
 
 -- behind the word stand the number and the rounds, up to the line's last bracket
@@ -58,14 +58,14 @@ module _ (line : List ℕ) (at count needs : ℕ) (has : LineHas line at count n
   pub its : Has
   unfolding LineHas
   its =
-      let q = read_as_lem (word_place line) (read_line line) (Rounds at count needs) has in
+      let q = read_as_lem (word_place line) (read_line line) (reads (Rounds at count needs)) has in
       record { k = q.0; rounds = q.1; is = q.2 }
 
   module _ (k : ℕ) (rs : List (List ℕ)) (e : read_line line ≡ reads (forms.rounds k rs)) where
     pub summed : (word_place line ≡ at) × (count ≡ length rs) × (halts.needs k rs ≡ needs)
     unfolding LineHas line_form
     summed =
-        let q : Rounds (word_place line) (length rs) (halts.needs k rs) ≡ Rounds at count needs =
+        let q : reads (Rounds (word_place line) (length rs) (halts.needs k rs)) ≡ reads (Rounds at count needs) =
         ap (line_form (word_place line)) (sym e) ∙ has in
         let place : word_place line ≡ at = cc in
         let many : count ≡ length rs = cc in
@@ -92,7 +92,7 @@ module _ (line : List ℕ) (at count needs : ℕ) (has : LineHas line at count n
   pub number_inside : at + 1 ≤ length line
   number_inside = omega (arith, known_inside line (at + 1) number_stands)
 
-  module _ (n : KnownNumber) (known : KnownIs line (at + 1) n) where
+  module _ (n : At ℕ) (known : KnownIs line (at + 1) n) where
     pub rounds_there : (k : ℕ) (rs : List (List ℕ)) → read_line line ≡ reads (forms.rounds k rs)
         → rounds_in (drop n.next line) ≡ found rs []
     unfolding found InRange
@@ -104,24 +104,28 @@ module _ (line : List ℕ) (at count needs : ℕ) (has : LineHas line at count n
     pub rounds_stand : RoundsStand line n.next
     rounds_stand = record { rounds = its.rounds; rest = []; read = rounds_there its.k its.rounds its.is }
 
-    module _ (b : List ℕ) (w : Verdict) (h : Refuses needs b w) (ok : w ≡ verdicts.Accepted) where
+    module _ (b : List ℕ) (x : Unit {0}) (h : Refuses needs b (Ok x)) where
       pub line_played : (d : List ℕ) (decided : ℕ) → RoundsPlay line n.next b d → decided ≡ decided_on d
-          → PlaysLine line b (byRound.Played count decided) d
+          → PlaysLine line b (Ok (record { rounds = count; decided = decided })) d
       unfolding PlaysLine RoundsPlay
       line_played d decided plays q k rs e =
-          rounds_played k rs b count d decided (rounds_passed needs b w h k rs (summed k rs e).2 ok) (summed k rs e).1
-          (plays rs [] (rounds_there k rs e)) q
+          let s = summed k rs e in
+          let passes = rounds_passed needs b k rs s.2 x h in
+          let there = plays rs [] (rounds_there k rs e) in
+          (played_answer k rs b d passes there count decided s.1 q, played_bytes k rs b d passes there)
 
-  pub line_refused : (b : List ℕ) (w : Verdict) → Refuses needs b w → (j : ℕ) → w ≡ verdicts.Refused j
-      → PlaysLine line b (byRound.Refused j) b
+  pub line_refused : (b : List ℕ) (j : Refusal) → Refuses needs b (Err j) → PlaysLine line b (Err j) b
   unfolding PlaysLine
-  line_refused b w h j q k rs e =
-      rounds_refused k rs b j (rounds_turned needs b w h k rs (summed k rs e).2 j q)
+  line_refused b j h k rs e =
+      let turned = rounds_turned needs b k rs (summed k rs e).2 j h in
+      (refused_answer k rs b j turned, refused_bytes k rs b j turned)
 
 -- the rounds that were played leave a sound board
-pub played_sound : (line : List ℕ) (at needs : ℕ) (b : List ℕ) (w : Verdict) → Refuses needs b w → w ≡ verdicts.Accepted
+pub played_sound : (line : List ℕ) (at needs : ℕ) (b : List ℕ) (x : Unit {0}) → Refuses needs b (Ok x)
     → RoundsStand line at
     → (d : List ℕ) → RoundsPlay line at b d → board_refusal d none ≡ none
 unfolding RoundsPlay
-played_sound line at needs b w h q stand d plays =
-    left_sound needs b w h q stand.rounds d (plays stand.rounds stand.rest stand.read)
+played_sound line at needs b x h stand d plays =
+    left_sound needs b x h stand.rounds d (plays stand.rounds stand.rest stand.read)
+
+pub ruleset line = (number_stands, number_inside, rounds_stand, passed_sound, played_sound, line_played, line_refused)
