@@ -19,6 +19,7 @@ use rounds::suspending::suspend;
 
 // The round whose bracket opens at `at`: the set of the stations that it suspends, and the place after it. One byte stands before
 // each number, the bracket or a space.
+#[tactic(auto, using(crate::proofs::Laws::OneRound::stations))]
 pub fn round_at(line: &[u8], at: usize) -> At<[bool; 16]>
     requires { RoundStands line.now at }
     ensures { RoundIs line.now at result }
@@ -43,6 +44,7 @@ pub fn round_at(line: &[u8], at: usize) -> At<[bool; 16]>
 }
 
 // The rounds from `at` on, each behind a space, up to the closing bracket.
+#[tactic(auto, using(crate::proofs::Laws::AllRounds::playing))]
 fn play_rounds_at(board: &mut [u8], line: &[u8], at: usize)
     requires { (board_refusal board.old none ≡ none) × RoundsStand line.now at }
     ensures { RoundsPlay line.now at board.old board.new }

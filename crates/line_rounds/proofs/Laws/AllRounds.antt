@@ -10,7 +10,7 @@ use Rattle.model.proofs.Sheet.Lists.{Stations, round_read, round_stood}
 use Rattle.list_laws.proofs.Laws.Walks.{Kind, Walk, walk_begun, walk_inside, walk_ended, next, Behind, walk_more}
 use Rattle.rounds.specs.Suspended.{Suspends}
 use Rattle.rounds.specs.Rounds.{after_round}
-use Rattle.rounds.proofs.Laws.Rounds.{RanRounds, one_round_more, rounds_sound, rounds_bytes}
+use Rattle.rounds.proofs.Laws.Rounds.{RanRounds, no_rounds, one_round_more, rounds_sound, rounds_bytes}
 use Rattle.lexer.specs.declared.At.{At}
 use Rattle.line_rounds.specs.LineRounds.{RoundStands, RoundRead, RoundIs, RoundsStand, RoundsPlay}
 
@@ -96,3 +96,6 @@ module _ (line : List ℕ) (at : ℕ) (b d : List ℕ) (place : ℕ)
   played_more more r round_is e q =
       passed_more line at _ place passed more r round_is _
       (λ rs one p s. one_round_more b rs d r.value one e p s q)
+
+-- what the code finds by itself
+pub ruleset playing = (passed_begun, no_rounds, played_more)

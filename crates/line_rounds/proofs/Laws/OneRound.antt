@@ -213,3 +213,6 @@ module _ (line : List ℕ) (at : ℕ) (halted : List Bool) (place : ℕ) (along 
         numbers = next.numbers;
         behind = omega (arith, along.behind, known.inside.0);
       }
+
+-- what the code finds by itself
+pub ruleset stations = (place_inside, set_size)

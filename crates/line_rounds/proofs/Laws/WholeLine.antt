@@ -23,8 +23,8 @@ use Rattle.sheet.specs.declared.form.LineForm.TheVariants.{Rounds}
 use Rattle.sheet.specs.LineForms.{line_form}
 use Rattle.sheet.proofs.Laws.Readings.{read_as_lem, not_long}
 use Rattle.rounds.specs.Asked.{Refuses}
-use Rattle.rounds.proofs.Laws.Rounds.{rounds_turned, rounds_passed, passed_sound, left_sound, refused_answer}
-use Rattle.rounds.proofs.Laws.Rounds.{refused_bytes, played_answer, played_bytes}
+use Rattle.rounds.proofs.Laws.Rounds.{rounds_turned, rounds_passed, passed_sound, left_sound, refused_answer, refused_bytes}
+use Rattle.rounds.proofs.Laws.Rounds.{played_answer, played_bytes}
 use Rattle.line_rounds.specs.LineRounds.{RoundsStand, RoundsPlay, LineHas, PlaysLine}
 
 -- behind the word stand the number and the rounds, up to the line's last bracket
@@ -109,16 +109,15 @@ module _ (line : List ℕ) (at count needs : ℕ) (has : LineHas line at count n
           → PlaysLine line b (Ok (record { rounds = count; decided = decided })) d
       unfolding PlaysLine RoundsPlay
       line_played d decided plays q k rs e =
-          let s = summed k rs e in
-          let passes = rounds_passed needs b k rs s.2 x h in
-          let there = plays rs [] (rounds_there k rs e) in
-          (played_answer k rs b d passes there count decided s.1 q, played_bytes k rs b d passes there)
+          let free = rounds_passed needs b k rs (summed k rs e).2 x h in
+          let ran = plays rs [] (rounds_there k rs e) in
+          (played_answer k rs b d free ran count decided (summed k rs e).1 q, played_bytes k rs b d free ran)
 
-  pub line_refused : (b : List ℕ) (j : Refusal) → Refuses needs b (Err j) → PlaysLine line b (Err j) b
+  pub line_refused : (b : List ℕ) (r : Refusal) → Refuses needs b (Err r) → PlaysLine line b (Err r) b
   unfolding PlaysLine
-  line_refused b j h k rs e =
-      let turned = rounds_turned needs b k rs (summed k rs e).2 j h in
-      (refused_answer k rs b j turned, refused_bytes k rs b j turned)
+  line_refused b r h k rs e =
+      let turned = rounds_turned needs b k rs (summed k rs e).2 r h in
+      (refused_answer k rs b r turned, refused_bytes k rs b r turned)
 
 -- the rounds that were played leave a sound board
 pub played_sound : (line : List ℕ) (at needs : ℕ) (b : List ℕ) (x : Unit {0}) → Refuses needs b (Ok x)
@@ -128,4 +127,5 @@ unfolding RoundsPlay
 played_sound line at needs b x h stand d plays =
     left_sound needs b x h stand.rounds d (plays stand.rounds stand.rest stand.read)
 
-pub ruleset line = (number_stands, number_inside, rounds_stand, passed_sound, played_sound, line_played, line_refused)
+-- what the code finds by itself
+pub ruleset line = (number_stands, number_inside, passed_sound, rounds_stand, line_refused, line_played)
