@@ -22,6 +22,7 @@ pub fn met_sound(s: &[u8], at: usize, position: u8) -> bool
 // A turn is a write and n reads. The turns behind a station are three for each island that it has passed and those of its
 // present pass; in a collect there are its write and the reads before its position besides. A count of 0 is within every
 // bound, so that an idle station, whose count is 0, needs no test of its own.
+#[tactic(auto, using(crate::proofs::Laws::Counts::bounds))]
 pub fn steps_sound(f: Record, n: usize) -> bool
     requires { (n ≤ 16) × (f.phase ≤ 8) × (f.phase ≡ 0 → f.steps ≡ 0) }
     ensures { result ≡ steps_kept n f.steps (record_value f) }

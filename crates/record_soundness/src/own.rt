@@ -13,6 +13,7 @@ use figures::order::{above, pair_above, same};
 use model::phase::{READ_A, READ_B, READ_M};
 use model::{Record, Register};
 
+#[tactic(auto, using(crate::proofs::Laws::Held::same_side))]
 fn same_flag(mark: u8, flag: u8) -> bool
     ensures { result ≡ eqb (flag_number (flag_of mark)) (flag_number (flag_of flag)) }
 {
@@ -20,6 +21,7 @@ fn same_flag(mark: u8, flag: u8) -> bool
 }
 
 // The register holds this flag, island and figure.
+#[tactic(auto, using(crate::proofs::Laws::Held::held))]
 fn held(r: Register, flag: u8, island: u8, figure: i32) -> bool
     ensures { result ≡ same_register (register_value r) (filled (flag_of flag) island figure) }
 {
@@ -35,6 +37,7 @@ fn column(s: &[u8], n: usize, row: usize, i: usize) -> Register
 }
 
 // Phase 2: the pair of island and carried figure, and the best pair no lower.
+#[tactic(auto, using(crate::proofs::Laws::Own::in_m))]
 fn own_in_m(s: &[u8], n: usize, i: usize, f: Record) -> bool
     requires { (16 + 8 * i ≤ length s.now) × (n ≤ 16) × (i < n) }
     ensures { result ≡ own_kept n i s.now (reading_of turn_m f) }
@@ -45,6 +48,7 @@ fn own_in_m(s: &[u8], n: usize, i: usize, f: Record) -> bool
 }
 
 // Phase 4: the carried figure, and the best figure no lower.
+#[tactic(auto, using(crate::proofs::Laws::Own::in_a))]
 fn own_in_a(s: &[u8], n: usize, k: usize, i: usize, f: Record) -> bool
     requires { (length s.now ≡ board_length n k) × (n ≤ 16) × (k ≤ 64) × (i < n) × (f.island < k) }
     ensures { result ≡ own_kept n i s.now (reading_of turn_a f) }
@@ -55,6 +59,7 @@ fn own_in_a(s: &[u8], n: usize, k: usize, i: usize, f: Record) -> bool
 }
 
 // Phase 6: the flag and the carried figure.
+#[tactic(auto, using(crate::proofs::Laws::Own::in_b))]
 fn own_in_b(s: &[u8], n: usize, k: usize, i: usize, f: Record) -> bool
     requires { (length s.now ≡ board_length n k) × (n ≤ 16) × (k ≤ 64) × (i < n) × (f.island < k) }
     ensures { result ≡ own_kept n i s.now (reading_of (turn_b (flag_of f.flag)) f) }
@@ -64,6 +69,7 @@ fn own_in_b(s: &[u8], n: usize, k: usize, i: usize, f: Record) -> bool
         && (usize::from(f.position) <= i || f.seen != 0)
 }
 
+#[tactic(auto, using(crate::proofs::Laws::Own::by_phase))]
 pub fn own_sound(s: &[u8], n: usize, k: usize, i: usize, f: Record) -> bool
     requires { (length s.now ≡ board_length n k) × (n ≤ 16) × (k ≤ 64) × (i < n) × (f.island < k) }
     ensures { result ≡ own_kept n i s.now (record_value f) }

@@ -14,6 +14,7 @@ use figures::zeros::{zero_cell, zero_pair};
 use model::phase::IDLE;
 
 // "Idle is all zero": that is all that is asked of such a record.
+#[tactic(auto, using(crate::proofs::Laws::Records::three_cells))]
 fn idle_sound(s: &[u8], at: usize) -> bool
     requires { at + 24 ≤ length s.now }
     ensures { result ≡ zeros (part at 24 s.now) }
@@ -36,6 +37,7 @@ fn record_sound(s: &[u8], at: usize, n: usize, k: usize, i: usize) -> bool
         && own_sound(s, n, k, i, f)
 }
 
+#[tactic(auto, using(crate::proofs::Laws::Records::each))]
 pub fn records_sound(s: &[u8], n: usize, k: usize) -> bool
     requires { (length s.now ≡ board_length n k) × (n ≤ 16) × (k ≤ 64) × (0 < n) × (0 < k) }
     ensures { result ≡ every n (λ i. record_sound n k i s.now (record_of n k i s.now)) }

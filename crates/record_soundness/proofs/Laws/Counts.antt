@@ -118,3 +118,5 @@ module _ (b : List ℕ) (at : ℕ) where
 
     pub pair_high : (p : ℕ) → byte b (at + gap_at) ≡ 0 → byte b (at + met_at) ≤ p → leb (met_pair at b) p ≡ true
     pair_high p z l = le-leb (met_pair at b) p (omega (arith, pair_is))
+
+pub ruleset bounds = (kept_none, kept_collecting, kept_between)

@@ -54,10 +54,11 @@ marked (suc m) k v g j w h = refl
 
 -- the tests of the code one after another
 pub held_tests : (r : Register) (g j : ℕ) (w : Figure)
-    → not (eqb r.mark 0) && eqb (flag_number (flag_of r.mark)) (flag_number (flag_of g)) && eqb r.island j
-    && same_figure r.figure w ≡ same_register (register_value r) (filled (flag_of g) j w)
+    → same_register (register_value r) (filled (flag_of g) j w)
+    ≡ not (eqb r.mark 0) && eqb (flag_number (flag_of r.mark)) (flag_number (flag_of g)) && eqb r.island j
+    && same_figure r.figure w
 unfolding register_value same_register
-held_tests r g j w = go (ℕ_discrete r.mark 0)
+held_tests r g j w = sym (go (ℕ_discrete r.mark 0))
   where
     fields : Bool → Bool
     fields t = not t && eqb (flag_number (flag_of r.mark)) (flag_number (flag_of g)) && eqb r.island j && same_figure r.figure w
@@ -119,3 +120,5 @@ module _ (n k i c : ℕ) (b : List ℕ) (e : length b ≡ board_length n k) (h :
   pub place_b : c < k → 8 + 8 * (n * (2 + 2 * c) + i) + 8 ≤ length b
   unfolding register_at row_of InBoard
   place_b l = omega (arith, register_fits n k (in_b c) i l h)
+
+pub ruleset held = (held_tests, same_bits)

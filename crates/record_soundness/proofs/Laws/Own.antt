@@ -9,6 +9,7 @@ use Rattle.model.specs.Listing.{flag_of, Turn, turn_m, turn_a, turn_b, Flag, pai
 use Rattle.model.specs.Layout.{seen_of, writing_of, reading_of, of_phase, record_value}
 use Rattle.model.specs.Sound.{own_written, own_seen, own_passed}
 use Rattle.record_soundness.specs.Groups.{own_kept}
+use Rattle.record_soundness.proofs.Laws.Held.{place_m, place_a, place_b, written_m, written_a, written_b}
 use Rattle.record_soundness.proofs.Laws.Chains.{and_then, and_else, implies_no, implies_yes}
 
 -- ---- what the collect has seen
@@ -127,3 +128,12 @@ module _ (n i : ℕ) (b : List ℕ) (f : Record) where
       → true ≡ own_written n i b (record_value f) && own_passed i (record_value f)
   unfolding record_value
   not_collecting x y z = quiet f.phase x y z
+
+-- by turn
+pub ruleset in_m = (written_m, not_written, not_passed, seen_as, nothing_seen, seen_m)
+
+pub ruleset in_a = (place_a, written_a, not_written, not_passed, seen_as, nothing_seen, seen_a)
+
+pub ruleset in_b = (place_b, written_b, not_written, not_passed, seen_as, seen_b)
+
+pub ruleset by_phase = (place_m, collects_m, collects_a, collects_b, not_collecting)

@@ -19,6 +19,8 @@ use Rattle.model.proofs.Basics.Tests.{both, and_false, and_l, and_r, and_i, true
 use Rattle.model.proofs.Basics.Tests.{implies_use}
 use Rattle.record_soundness.specs.Groups.{laid, met_pair, own_kept}
 use Rattle.record_soundness.proofs.Laws.Chains.{decided, regrouped}
+use Rattle.record_soundness.proofs.Laws.Chains as chains
+use Rattle.model.proofs.Basics.Loops.{every_none, every_more, every_fails}
 use Rattle.record_soundness.proofs.Laws.Counts.{most_met_lem, pair_low, pair_high}
 use Rattle.model.proofs.Basics.Parts.{part-Bytes, listed, part_listed}
 use Rattle.model.proofs.Basics.Splices.{length_part, byte_part}
@@ -103,9 +105,8 @@ all_bytes (x ∷ xs) h = ((h 0).fits, all_bytes xs (λ j. h (suc j)))
 
 -- ---- a record's 24 bytes as three cells
 pub three_cells : (b : List ℕ) (at : ℕ)
-    → zeros (part at 8 b) && zeros (part (at + 8) 8 b) && zeros (part (at + 16) 8 b) ≡ zeros (part at 24 b)
-three_cells b at =
-    sym (zeros_join b at 16 8 ∙ ap (λ (x : Bool). x && zeros (part (at + 16) 8 b)) (zeros_join b at 8 8))
+    → zeros (part at 24 b) ≡ zeros (part at 8 b) && zeros (part (at + 8) 8 b) && zeros (part (at + 16) 8 b)
+three_cells b at = zeros_join b at 16 8 ∙ ap (λ (x : Bool). x && zeros (part (at + 16) 8 b)) (zeros_join b at 8 8)
 
 -- ---- the record of station index i, which stands at `at`
 pub record Placed (n k i at : ℕ) (b : List ℕ) : Type 0 where
@@ -283,3 +284,5 @@ record_next n k i at e = omega arith
 pub next_fits : (n k i at : ℕ) → at ≡ record_at n k 0 → n ≤ 16 → k ≤ 64 → i < n → Fits w64 (at + 24 * i)
 unfolding record_at
 next_fits n k i at e hn hk h = record { fits = omega (arith, mul-le-mul hn hk) }
+
+pub ruleset each = (every_none, every_more, every_fails, chains.no, chains.yes, record_next, next_fits)
