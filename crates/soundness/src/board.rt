@@ -14,6 +14,7 @@ use figures::zeros::{zero_pair, zero_word};
 use model::refusal::Refusal;
 use record_soundness::records::records_sound;
 
+#[tactic(auto, using(crate::proofs::Laws::Rows::head_form))]
 fn head_sound(s: &[u8]) -> bool
     requires { 8 ≤ length s.now }
     ensures { result ≡ head_sound s.now }
@@ -21,6 +22,7 @@ fn head_sound(s: &[u8]) -> bool
     zero_pair(s, 2) && zero_word(s, 4)
 }
 
+#[tactic(auto, using(crate::proofs::Laws::Verdicts::long_enough), unfolding(model::specs::Sound::sound))]
 fn sound(board: &[u8], n: usize, k: usize) -> bool
     requires { (length board.now ≡ board_length n k) × (1 ≤ n) × (n ≤ 16) × (2 ≤ k) × (k ≤ 64) }
     ensures { result ≡ Model.sound n k board.now }
@@ -29,6 +31,7 @@ fn sound(board: &[u8], n: usize, k: usize) -> bool
 }
 
 // Any bytes of any length are answered. A shorter board has no head to read n and K from.
+#[tactic(auto, using(crate::proofs::Laws::Verdicts::checked))]
 pub fn check_board(board: &[u8]) -> Result<(), Refusal>
     ensures { verdict result ≡ board_refusal board.now none }
 {

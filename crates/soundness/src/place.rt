@@ -15,6 +15,7 @@ pub struct Place {
 }
 
 // On a board that is known to be sound.
+#[tactic(auto, using(crate::proofs::Laws::Placing::placing))]
 pub fn station_place(board: &[u8], station: u8) -> Result<Place, Refusal>
     requires { board_refusal board.now none ≡ none }
     ensures { Placed station board.now result }

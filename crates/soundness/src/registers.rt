@@ -11,6 +11,7 @@ use figures::zeros::{zero_pair, zero_word};
 
 // The mark, the island and two zeros are read as one number, which decides all but the n registers of m: in A and B the
 // island is zero, so that the number of a filled register is its mark.
+#[tactic(auto, using(crate::proofs::Laws::Rows::one))]
 fn register_sound(s: &[u8], at: usize, marks: u8, islands: u8) -> bool
     requires { at + 8 ≤ length s.now }
     ensures { result ≡ register_sound marks islands (part at 8 s.now) }
@@ -26,6 +27,7 @@ fn register_sound(s: &[u8], at: usize, marks: u8, islands: u8) -> bool
 }
 
 // The n registers from start on.
+#[tactic(auto, using(crate::proofs::Laws::Rows::row))]
 fn row_sound(s: &[u8], start: usize, n: usize, marks: u8, islands: u8) -> bool
     requires { (start + 8 * n ≤ length s.now) × (n ≤ 16) }
     ensures { result ≡ every n (λ j. register_sound marks islands (part (start + 8 * j) 8 s.now)) }
@@ -54,6 +56,7 @@ fn islands_sound(s: &[u8], n: usize, k: usize) -> bool
     true
 }
 
+#[tactic(auto, using(crate::proofs::Laws::Rows::all))]
 pub fn registers_sound(s: &[u8], n: usize, k: usize) -> bool
     requires { (length s.now ≡ board_length n k) × (1 ≤ n) × (n ≤ 16) × (k ≤ 64) }
     ensures { result ≡ registers_sound n k s.now }

@@ -9,12 +9,14 @@ use codec::places::board_length;
 use model::refusal::Refusal;
 
 // Of a head, which may have two stations; a laying takes all of these but 2.
+#[tactic(auto, unfolding(model::specs::Calls::ranges))]
 pub fn stations_in_range(n: u8) -> bool
     ensures { result ≡ ranges.stations_in n }
 {
     1 <= n && n <= 16
 }
 
+#[tactic(auto, unfolding(model::specs::Calls::ranges))]
 pub fn islands_in_range(k: u8) -> bool
     ensures { result ≡ ranges.islands_in k }
 {
@@ -22,6 +24,7 @@ pub fn islands_in_range(k: u8) -> bool
 }
 
 // The caller tells whether n and K are in its ranges.
+#[tactic(auto, using(crate::proofs::Laws::Verdicts::shape_checked))]
 pub fn shape_refusal(
     board: &[u8],
     n: u8,

@@ -102,3 +102,5 @@ module _ (i : ℕ) (b : List ℕ) (j at : ℕ) (on : On i b j at) (f : Record) (
   pub own_steps : f.steps ≡ steps_taken i b
   unfolding steps_taken
   own_steps = ap (λ (g : Record). g.steps) own_record
+
+pub ruleset placing = (head_long, n_high, k_high, twelve, placed)

@@ -7,14 +7,16 @@ use native.Mathlib.Nat.{mul-zero, mul-one, mul-suc}
 use Rattle.model.specs.Bytes.{byte, number, part, zeros, every}
 use Rattle.model.specs.Listing.{Array, in_m, in_a, in_b}
 use Rattle.model.specs.Layout.{board_length, row_of, register_at}
-use Rattle.model.specs.Sound.{register_sound, head_sound, array_sound}
+use Rattle.model.specs.Sound.{register_sound, head_sound, array_sound, registers_sound}
 use Rattle.model.proofs.Basics.Tests.{and_l, and_r, and_i, true-T, both}
 use Rattle.model.proofs.Basics.Parts.{zero_at_lem}
 use Rattle.model.proofs.Board.Places.{InBoard, register_fits}
 use Rattle.figures.proofs.Laws.Signs.{word_read}
 use Rattle.figures.proofs.Laws.Zeros.{zeros_join, word_zero, pair_second}
 use Rattle.codec.proofs.Laws.Reads.{part_part, first_byte, byte_at}
+use Rattle.record_soundness.proofs.Laws.Chains as chains
 use Rattle.record_soundness.proofs.Laws.Chains.{cond_yes, cond_no}
+use Rattle.model.proofs.Basics.Loops.{every_none, every_more}
 
 module _ (marks islands : ℕ) (b : List ℕ) (at : ℕ) (h : at + 8 ≤ length b) where
   mark : byte b at ≡ byte (part at 8 b) 0
@@ -63,19 +65,6 @@ module _ (marks islands : ℕ) (b : List ℕ) (at : ℕ) (h : at + 8 ≤ length 
         ap (λ (t : Bool). t && zeros (part (at + 4) 4 b)) (sym (ne_eqb word 0 f) ∙ word_zero word (part at 4 b) e)
         ∙ register_empty z
 
-    -- the tests of the three bytes one after another, with the mark's own first
-    pub by_bytes : (word ≡ 0 → ⊥)
-        → not (eqb (byte b at) 0) && leb (byte b at) marks && ltb (byte b (at + 1)) islands && zeros (part (at + 2) 2 b)
-        ≡ register_sound marks islands (part at 8 b)
-    by_bytes f = go (ℕ_discrete (byte b at) 0)
-      where
-        tests : Bool → Bool
-        tests t = not t && leb (byte b at) marks && ltb (byte b (at + 1)) islands && zeros (part (at + 2) 2 b)
-
-        go : Dec (byte b at ≡ 0) → tests (eqb (byte b at) 0) ≡ register_sound marks islands (part at 8 b)
-        go (yes z) = ap tests (eq-eqb (byte b at) 0 z) ∙ word_stray f z
-        go (no g) = ap tests (ne_eqb (byte b at) 0 g) ∙ register_filled g
-
     -- a filled register whose island is zero is its mark
     module _ (small : marks ≤ 255) (one : islands ≡ 1) (f : word ≡ 0 → ⊥) where
       low : Bool
@@ -122,10 +111,23 @@ module _ (marks islands : ℕ) (b : List ℕ) (at : ℕ) (h : at + 8 ≤ length 
           go (yes z) = lt-leb word marks (omega (arith, its_bytes)) ∙ word_stray f z
           go (no g) = both (leb word marks) (low && inside && rest) forth back ∙ register_filled g
 
+-- the tests of the three bytes one after another, with the mark's own first
+pub by_bytes : (marks islands : ℕ) (b : List ℕ) (at : ℕ) → at + 8 ≤ length b → (number (part at 4 b) ≡ 0 → ⊥)
+    → register_sound marks islands (part at 8 b)
+    ≡ not (eqb (byte b at) 0) && leb (byte b at) marks && ltb (byte b (at + 1)) islands && zeros (part (at + 2) 2 b)
+by_bytes marks islands b at h f = sym (go (ℕ_discrete (byte b at) 0))
+  where
+    tests : Bool → Bool
+    tests t = not t && leb (byte b at) marks && ltb (byte b (at + 1)) islands && zeros (part (at + 2) 2 b)
+
+    go : Dec (byte b at ≡ 0) → tests (eqb (byte b at) 0) ≡ register_sound marks islands (part at 8 b)
+    go (yes z) = ap tests (eq-eqb (byte b at) 0 z) ∙ word_stray marks islands b at h _ refl f z
+    go (no g) = ap tests (ne_eqb (byte b at) 0 g) ∙ register_filled marks islands b at h g
+
 -- the head's six zeros are two and four
-pub head_form : (b : List ℕ) → zeros (part 2 2 b) && zeros (part 4 4 b) ≡ head_sound b
+pub head_form : (b : List ℕ) → head_sound b ≡ zeros (part 2 2 b) && zeros (part 4 4 b)
 unfolding head_sound
-head_form b = sym (zeros_join b 2 2 4)
+head_form b = zeros_join b 2 2 4
 
 -- ---- rows of n registers
 -- one row after another
@@ -163,8 +165,16 @@ row_m : (n : ℕ) → 8 ≡ register_at n in_m 0
 unfolding register_at row_of
 row_m n = omega (arith, mul-zero n)
 
-pub array_m : (n k : ℕ) (b : List ℕ) → every n (λ j. register_sound 1 k (part (8 + 8 * j) 8 b)) ≡ array_sound n 1 k b in_m
+array_m : (n k : ℕ) (b : List ℕ) → every n (λ j. register_sound 1 k (part (8 + 8 * j) 8 b)) ≡ array_sound n 1 k b in_m
 array_m n k b = row_is n 1 k b in_m 8 (row_m n)
+
+pub rows_form : (n k : ℕ) (b : List ℕ)
+    → registers_sound n k b
+    ≡ every n (λ j. register_sound 1 k (part (8 + 8 * j) 8 b))
+    && every k (λ c. array_sound n 1 1 b (in_a c) && array_sound n 2 1 b (in_b c))
+unfolding registers_sound
+rows_form n k b =
+    sym (ap (λ (t : Bool). t && every k (λ c. array_sound n 1 1 b (in_a c) && array_sound n 2 1 b (in_b c))) (array_m n k b))
 
 -- the rows of island c, A from `start` on and B after it
 pub record Rows (n k c start : ℕ) (b : List ℕ) : Type 0 where
@@ -191,3 +201,10 @@ module _ {n k c start : ℕ} {b : List ℕ} (p : Rows n k c start b) where
 pub m_inside : (n k : ℕ) (b : List ℕ) → length b ≡ board_length n k → 8 + 8 * n ≤ length b
 unfolding board_length
 m_inside n k b l = omega arith
+
+-- what each step has to show: of one register, of a row, of all
+pub ruleset one = (word_empty, word_mark, by_bytes)
+
+pub ruleset row = (every_none, every_more, chains.no, chains.yes)
+
+pub ruleset all = (m_inside, rows_form)

@@ -92,3 +92,8 @@ module _ (b : List ℕ) (s i : Bool) (es : s ≡ ranges.stations_in (get_or b 0 
 pub long_enough : (n k : ℕ) (b : List ℕ) → length b ≡ board_length n k → 8 ≤ length b
 unfolding board_length
 long_enough n k b e = omega arith
+
+-- what each return has to show
+pub ruleset shape_checked = (seven, eight, nine, ten, shaped)
+
+pub ruleset checked = (no_head, turned_down_lem, in_range, unsound, accepted)
