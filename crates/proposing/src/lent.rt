@@ -38,6 +38,7 @@ fn figure_of(pair: u64) -> i32
 }
 
 // What a sound board refuses the pairs with.
+#[tactic(auto, using(crate::proofs::Laws::Lent::trying))]
 pub fn pairs_refusal(board: &[u8], pairs: &[u64]) -> Result<(), Refusal>
     requires { board_refusal board.now none ≡ none }
     ensures { verdict result ≡ pairs_refusal (lent_pairs pairs.now) board.now }
@@ -51,6 +52,7 @@ pub fn pairs_refusal(board: &[u8], pairs: &[u64]) -> Result<(), Refusal>
 }
 
 // Each pair put in, on a board that takes every one of them.
+#[tactic(auto, using(crate::proofs::Laws::Lent::putting))]
 pub fn put_pairs(board: &mut [u8], pairs: &[u64])
     requires { AllAccepted (lent_pairs pairs.now) board.old }
     ensures { board.new ≡ one_by_one (lent_pairs pairs.now) board.old }

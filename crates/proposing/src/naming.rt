@@ -4,6 +4,7 @@ ghost use Rattle.std.specs.Prelude.{◌≡◌, length};
 ghost use Rattle.proposing.specs.Flags.{Names};
 
 // One number more, and whether it was named before. A number that no board's station has is named all the same.
+#[tactic(auto, using(crate::proofs::Laws::Flags::names_it))]
 pub fn name_station(flags: &mut [bool; 256], station: u8) -> bool
     requires { length flags.old ≡ 256 }
     ensures { Names flags.old station flags.new result }

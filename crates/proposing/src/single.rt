@@ -38,6 +38,7 @@ fn beginning(figure: i32) -> Record
 
 // What a sound board refuses a station's proposal with: 12, 22 or 13. A board of two stations may be stepped to its end, but takes
 // no figure.
+#[tactic(auto, using(crate::proofs::Laws::Single::refusing))]
 pub fn refusal_of(board: &[u8], station: u8) -> Result<(), Refusal>
     requires { board_refusal board.now none ≡ none }
     ensures { verdict result ≡ proposal_refusal station board.now }
@@ -53,6 +54,7 @@ pub fn refusal_of(board: &[u8], station: u8) -> Result<(), Refusal>
 }
 
 // A proposal that a sound board takes.
+#[tactic(auto, using(crate::proofs::Laws::Single::taking))]
 pub fn put_in(board: &mut [u8], station: u8, figure: i32)
     requires { (board_refusal board.old none ≡ none) × (proposal_refusal station board.old ≡ none) }
     ensures { board.new ≡ (propose station figure board.old).bytes }
@@ -64,6 +66,7 @@ pub fn put_in(board: &mut [u8], station: u8, figure: i32)
 }
 
 // A proposal on a board that is known to be sound.
+#[tactic(auto, using(crate::proofs::Laws::Single::on_board), unfolding(model::specs::Told::verdict))]
 fn propose_on(board: &mut [u8], station: u8, figure: i32) -> Result<(), Refusal>
     requires { board_refusal board.old none ≡ none }
     ensures { Proposes station figure board.old result board.new }
@@ -73,6 +76,7 @@ fn propose_on(board: &mut [u8], station: u8, figure: i32) -> Result<(), Refusal>
     Ok(())
 }
 
+#[tactic(auto, using(crate::proofs::Laws::Single::call), unfolding(model::specs::Told::verdict))]
 pub fn propose(board: &mut [u8], station: u8, figure: i32) -> Result<(), Refusal>
     ensures { (verdict result ≡ (propose station figure board.old).answer) × (board.new ≡ (propose station figure board.old).bytes) }
 {

@@ -12,6 +12,7 @@ use model::refusal::Refusal;
 use soundness::board::check_board;
 
 // The same on a board that is known to be sound. Nothing is put in before the last pair has passed.
+#[tactic(auto, using(crate::proofs::Laws::Together::pairs_refuse))]
 fn propose_pairs(board: &mut [u8], pairs: &[u64]) -> Result<(), Refusal>
     requires { board_refusal board.old none ≡ none }
     ensures { ProposesAll (lent_pairs pairs.now) board.old result board.new }
@@ -22,6 +23,7 @@ fn propose_pairs(board: &mut [u8], pairs: &[u64]) -> Result<(), Refusal>
 }
 
 // All pairs or none; no pair at all is taken, as none.
+#[tactic(auto, using(crate::proofs::Laws::Together::call), unfolding(model::specs::Told::verdict))]
 pub fn propose_all(board: &mut [u8], pairs: &[u64]) -> Result<(), Refusal>
     ensures { (verdict result ≡ (propose_all (lent_pairs pairs.now) board.old).answer) × (board.new ≡ (propose_all (lent_pairs pairs.now) board.old).bytes) }
 {

@@ -11,6 +11,7 @@ use model::refusal::Refusal;
 
 // The pairs so far are refused as `so_far` says, and this one comes behind them. A station that is named again turns all pairs
 // down, whatever fault stood before it.
+#[tactic(auto, using(crate::proofs::Laws::Trying::steps))]
 pub fn try_pair(
     board: &[u8],
     flags: &mut [bool; 256],

@@ -122,3 +122,8 @@ module _ (b xs : List ℕ) where
                   ap (one_by_one (lent_pairs (drop (i + 1) xs))) same
                   ∙ sym (ap (λ (ps : List Proposal). one_by_one ps d) here) ∙ p.ends;
             }
+
+-- what the code finds in the two loops by itself
+pub ruleset trying = (tried_begun, tried_size, tried_next, tried_all)
+
+pub ruleset putting = (put_begun, next_sound, next_free, put_all)

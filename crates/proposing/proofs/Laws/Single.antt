@@ -23,7 +23,7 @@ use Rattle.model.proofs.Calls.Proposals.{accepts}
 use Rattle.soundness.specs.declared.place.Place.{Place}
 use Rattle.soundness.specs.Placed.{On, Placed}
 use Rattle.soundness.proofs.Laws.Checked.{turned, past_board}
-use Rattle.soundness.proofs.Laws.Placing.{head, at_place, not_placed, own_value}
+use Rattle.soundness.proofs.Laws.Placing.{head_long, n_high, k_high, head, at_place, not_placed, own_value}
 use Rattle.proposing.specs.Answers.{Proposes}
 
 -- ---- what a station is refused with
@@ -157,3 +157,12 @@ same_figure_lem i v b r d fits h = (
   h.0 ∙ ap (λ (x : Figure). (propose i x b).answer) (to_z-of_z fits),
   h.1 ∙ ap (λ (x : Figure). (propose i x b).bytes) (to_z-of_z fits),
 )
+
+-- what the code finds by itself: of a refusal, of a proposal that is taken, on a sound board and of the call
+pub ruleset refusing = (no_station, head_inside, twenty_two, phase_inside, thirteen, taken)
+
+pub ruleset taking = (head_long, n_high, k_high, index_from, own_inside, record_there)
+
+pub ruleset on_board = (station_refuses, station_free)
+
+pub ruleset call = (board_refuses, same_figure_lem)

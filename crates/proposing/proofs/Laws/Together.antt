@@ -63,3 +63,6 @@ pub lent_fit : (xs : List ℕ) → AllFit (lent_pairs xs)
 unfolding AllFit Each lent_pairs lent_pair
 lent_fit [] = tt
 lent_fit (x ∷ xs) = (signed_fits (x / 4294967296), lent_fit xs)
+
+-- what each step of the call has to show
+pub ruleset call = (board_refuses_all, as_promised)

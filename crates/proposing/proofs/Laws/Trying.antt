@@ -104,3 +104,6 @@ module _ (b : List ℕ) (flags : List Bool) (i : ℕ) (so_far : Result (Unit {0}
     fault_tried x z r e ps v t =
         next r ps v t (λ n. e ∙ ap (λ (q : Refusal). or_later q (proposal_refusal i b)) (sym (ap verdict z) ∙ t.refused)
         ∙ sym (only_new ps v n))
+
+-- what each return has to show
+pub ruleset steps = (twenty, fault_stays, fault_tried)
