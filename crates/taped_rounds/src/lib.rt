@@ -12,6 +12,7 @@ use taping::Taped;
 use taping::single::tape_turn;
 
 // A station's part in a round.
+#[tactic(auto, using(crate::proofs::Laws::Turns::turning))]
 fn tape_station(
     board: &mut [u8],
     station: u8,
@@ -31,21 +32,21 @@ fn tape_station(
 
 // The stations in their order, each before the next begins: those that are not suspended take a whole step, which is one
 // single step for the write and one for each register of the collect.
+#[tactic(auto, using(crate::proofs::Laws::Turns::turns))]
 fn tape_round(board: &mut [u8], halted: [bool; 16], out: &mut [u8], taped: Taped) -> Taped
     requires { Ready (taping board.old out.old taped) }
     ensures { taping board.new out.new result ≡ turns_taped halted (taping board.old out.old taped) }
 {
-    let n = board[0] as usize;
+    let n = usize::from(board[0]);
     let mut done = taped;
-    let mut j = 0;
-    while j < n {
+    for j in 0..n {
         done = tape_station(board, (j + 1) as u8, halted[j], n + 1, out, done);
-        j += 1;
     }
     done
 }
 
 // The rounds from `at` on, each behind a space, up to the closing bracket.
+#[tactic(auto, using(crate::proofs::Laws::Rounds::taping_rounds))]
 pub fn tape_rounds_at(
     board: &mut [u8],
     line: &[u8],
@@ -60,8 +61,7 @@ pub fn tape_rounds_at(
     let mut place = at;
     while line[place] == b' ' {
         let round = round_at(line, place + 1);
-        let halted = round.halted;
-        done = tape_round(board, halted, out, done);
+        done = tape_round(board, round.value, out, done);
         place = round.next;
     }
     done

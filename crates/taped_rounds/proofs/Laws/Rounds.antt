@@ -6,9 +6,9 @@ use Rattle.model.specs.Rounds.{round_steps, rounds_steps}
 use Rattle.soundness.proofs.Laws.Placing.{n_high}
 use Rattle.rounds.specs.Suspended.{Suspends}
 use Rattle.rounds.proofs.Laws.Rounds.{round_steps_lem, rounds_more}
-use Rattle.line_rounds.specs.declared.RoundAt.{RoundAt}
+use Rattle.lexer.specs.declared.At.{At}
 use Rattle.line_rounds.specs.LineRounds.{RoundIs}
-use Rattle.line_rounds.proofs.Laws.AllRounds.{Passed, passed_all, passed_more}
+use Rattle.line_rounds.proofs.Laws.AllRounds.{Passed, passed_begun, passed_all, passed_more}
 use Rattle.taping.specs.declared.Taped.{Taped}
 use Rattle.taping.specs.Taping.{Taping, taping, taped_steps, Ready}
 use Rattle.taping.proofs.Laws.Steps.{Tapes, tapes_none, tapes_then}
@@ -60,9 +60,12 @@ module _ (line : List ℕ) (at : ℕ) (b₀ out₀ : List ℕ) (t₀ : Taped) wh
       unfolding RoundsTape TapedRounds
       taped_all closed rs rest e = (passed_all line at _ place passed closed rs rest e).state
 
-      pub taped_more : get_or line place 0 ≡ 32 → (r : RoundAt) → RoundIs line (place + 1) r
-          → (d now : List ℕ) (u : Taped) → taping d now u ≡ turns_taped r.halted (taping b out t)
+      pub taped_more : get_or line place 0 ≡ 32 → (r : At (List Bool)) → RoundIs line (place + 1) r
+          → (d now : List ℕ) (u : Taped) → taping d now u ≡ turns_taped r.value (taping b out t)
           → Passed line at (TapedRounds Begun (taping d now u)) r.next
       taped_more more r round_is d now u q =
           passed_more line at _ place passed more r round_is _
-          (λ rs one p h. one_round_more Begun (taping b out t) rs r.halted one (taping d now u) p h q)
+          (λ rs one p h. one_round_more Begun (taping b out t) rs r.value one (taping d now u) p h q)
+
+-- what the code finds by itself
+pub ruleset taping_rounds = (passed_begun, no_rounds, rounds_board, rounds_out, taped_more)

@@ -4,6 +4,7 @@ use Rattle.model.proofs.Kit.{◌≡◌, sym, ap, subst, ◌∙◌, Bool, true, f
 use Rattle.model.proofs.Kit.{replicate, get_or, arith}
 use Rattle.model.specs.Calls.{stations}
 use Rattle.model.specs.Rounds.{in_turn}
+use Rattle.soundness.proofs.Laws.Placing.{head_long, n_high}
 use Rattle.rounds.specs.Suspended.{suspended}
 use Rattle.rounds.proofs.Laws.Turns.{turns_more}
 use Rattle.taping.specs.declared.Taped.{Taped}
@@ -56,3 +57,8 @@ module _ (b₀ out₀ : List ℕ) (t₀ : Taped) (halted : List Bool) (steps : �
     turns_ended s l m =
         let e : j ≡ get_or b₀ 0 0 = omega arith in
         p.state ∙ (λ i. taped_steps (in_turn (s i) (e i) (suspended halted)) Begun)
+
+-- what the code finds by itself: one turn, and all of them
+pub ruleset turning = (turn_passed, turn_taken)
+
+pub ruleset turns = (head_long, n_high, turns_begun, turns_ready, turns_board, turns_out, turns_ended)
