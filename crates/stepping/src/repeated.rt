@@ -18,11 +18,11 @@ pub fn step_counted(board: &mut [u8], station: u8) -> u32
     requires { board_refusal board.old none ≡ none }
     ensures { RunsOn (station ∷ []) board.old result board.new }
 {
+    let n = board[0];
+    let k = board[1];
     let Ok(Place { index, at }) = going_place(board, station) else {
         return 0;
     };
-    let n = board[0];
-    let k = board[1];
     step_going(board, n, k, index, at);
     1
 }
