@@ -36,8 +36,8 @@ fn beginning(figure: i32) -> Record
     }
 }
 
-// What a sound board refuses a station's proposal with: 12, 22 or 13. A board of two stations may be stepped to its end, but takes
-// no figure.
+// What a sound board refuses a station's proposal with: 12, 22 or 13. A board of two stations may be stepped to its end, but
+// takes no figure.
 #[tactic(auto, using(crate::proofs::Laws::Single::refusing))]
 pub fn refusal_of(board: &[u8], station: u8) -> Result<(), Refusal>
     requires { board_refusal board.now none ≡ none }
