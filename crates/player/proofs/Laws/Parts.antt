@@ -18,6 +18,9 @@ module _ (k p : ℕ) (m : List ℕ) (e : p ≡ min k (length m)) where
   pub part_length : p ≡ length (take p m)
   part_length = sym (length-take-le p m (omega arith))
 
+  pub part_inside : p ≤ length m
+  part_inside = omega (arith, e)
+
   pub part_taken : take p m ≡ take k m
   part_taken =
       ⊎_elim (λ (h : k ≤ length m). ap (λ (j : ℕ). take j m) (e ∙ min-eq_left h))
