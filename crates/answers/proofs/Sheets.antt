@@ -9,10 +9,6 @@ use Rattle.model.specs.Layout.{board_length}
 use Rattle.model.specs.Sheet as model
 use Rattle.model.specs.Sheet.{refused_text, lines_of, printed, play_line, play_sheet}
 use Rattle.model.proofs.Basics.Ended.{front, parts_at, no_parts, mark_found, part_taken}
-use Rattle.line_writer.specs.declared.line.Line.{Line}
-use Rattle.line_writer.specs.Puts.{Holds, Puts, Room}
-use Rattle.line_writer.proofs.Putting.{puts_holds}
-use Rattle.line_writer.proofs.Rooms.{holds_room}
 use Rattle.answer_writer.proofs.Bounds.{refused_short}
 use Rattle.player.specs.declared.line.Played.{Played}
 use Rattle.player.specs.Played.{Plays}
@@ -77,7 +73,7 @@ module _ (s : List ℕ) (at laid : ℕ) (m : List ℕ) where
 -- ---- the answer at each return of `next_answer`
 
 module _ (s : List ℕ) (at laid : ℕ) (m : List ℕ) where
-  pub at_end : (line : Line) → length s ≤ at → Holds line []
+  pub at_end : (line : List ℕ) → length s ≤ at → line ≡ []
       → Answers (answer_at s at laid m) (record { line = line; laid = laid; next = at }) m
   unfolding ended
   at_end line l h =
@@ -85,26 +81,26 @@ module _ (s : List ℕ) (at laid : ℕ) (m : List ℕ) where
       (sym (at_ended s at laid m l))
       (record { line = h; laid = refl; next = refl; memory = refl })
 
-  pub too_long : (line next : Line) → 32768 < length s → at < length s → Holds line (refused_text 1)
-      → Puts line (10 ∷ []) next
+  pub too_long : (line next : List ℕ) → 32768 < length s → at < length s → line ≡ refused_text 1
+      → next ≡ line ++ (10 ∷ [])
       → Answers (answer_at s at laid m) (record { line = next; laid = laid; next = length s }) m
   unfolding refused_whole
   too_long line next h l q p =
       subst (λ (a : Answered). Answers a (record { line = next; laid = laid; next = length s }) m)
       (sym (at_refused s at laid m l h))
-      (record { line = puts_holds p (refused_text 1) q; laid = refl; next = refl; memory = refl })
+      (record { line = p ∙ ap (λ (l : List ℕ). l ++ (10 ∷ [])) q; laid = refl; next = refl; memory = refl })
 
   -- the line was played, and the sheet goes on behind its LF
-  pub goes_on : (end : ℕ) (r : Played) (d : List ℕ) (next : Line) → length s ≤ 32768 → at < length s
+  pub goes_on : (end : ℕ) (r : Played) (d next : List ℕ) → length s ≤ 32768 → at < length s
       → end ≡ at + index_of 10 (drop at s)
-      → Plays (play_line laid m (take (end - at) (drop at s))) r d → Puts r.line (10 ∷ []) next
+      → Plays (play_line laid m (take (end - at) (drop at s))) r d → next ≡ r.line ++ (10 ∷ [])
       → Answers (answer_at s at laid m) (record { line = next; laid = r.laid; next = end + 1 }) d
   unfolding line_answered
   goes_on end r d next h l e p q =
       subst (λ (a : Answered). Answers a (record { line = next; laid = r.laid; next = end + 1 }) d)
       (sym (at_line s at laid m l h))
       (record {
-        line = puts_holds q (play_line laid m (line_in (drop at s))).printed plays.line;
+        line = q ∙ ap (λ (l : List ℕ). l ++ (10 ∷ [])) plays.line;
         laid = plays.laid;
         next = omega (arith, e, lf_found (drop at s));
         memory = plays.memory;
@@ -114,11 +110,11 @@ module _ (s : List ℕ) (at laid : ℕ) (m : List ℕ) where
       plays = subst (λ (t : List ℕ). Plays (play_line laid m t) r d) (line_taken_lem s at end e) p
 
 -- room for the LF
-pub refused_room : (line : Line) → Holds line (refused_text 1) → Room line (10 ∷ [])
-refused_room line h = holds_room (refused_text 1) (10 ∷ []) h (omega (arith, refused_short 1))
+pub refused_room : (line : List ℕ) → line ≡ refused_text 1 → length line < 512
+refused_room line h = omega (arith, ap length h, refused_short 1)
 
-pub played_room : (p : model.Played) (r : Played) (d : List ℕ) → Plays p r d → Room r.line (10 ∷ [])
-played_room p r d h = holds_room p.printed (10 ∷ []) h.line (omega (arith, h.short))
+pub played_room : (p : model.Played) (r : Played) (d : List ℕ) → Plays p r d → length r.line < 512
+played_room p r d h = omega (arith, ap length h.line, h.short)
 
 -- ---- what is still to be printed
 

@@ -1,11 +1,10 @@
 -- What a sheet promises line by line: what the model plays from one place on, handed back by value.
--- Relies on the model's sheet and on what a line holds; the contract of the next answer relies on it, and
+-- Relies on the model's sheet; the contract of the next answer relies on it, and
 -- proofs/Sheets.antt proves `SheetPrinted`.
 use Rattle.std.specs.Prelude.{◌≡◌, cond, List, [], ◌∷◌, ◌++◌, ℕ, zero, suc, ◌+◌, ◌<◌, eqb, leb, ltb, length, drop, replicate}
 use Rattle.model.specs.Layout.{board_length}
 use Rattle.model.specs.Sheet as model
 use Rattle.model.specs.Sheet.{refused_text}
-use Rattle.line_writer.specs.Puts.{Holds}
 use Rattle.answers.specs.declared.SheetAnswer.{SheetAnswer}
 
 -- the line in front, without the LF that ends it
@@ -42,7 +41,7 @@ module _ (sheet : List ℕ) (at laid : ℕ) (m : List ℕ) where
       (cond (leb (length sheet) 32768) (line_answered (line_in (drop at sheet))) refused_whole)
 
 pub record Answers (a : Answered) (r : SheetAnswer) (d : List ℕ) : Type 0 where
-  pub line : Holds r.line a.printed
+  pub line : r.line ≡ a.printed
   pub laid : r.laid ≡ a.laid
   pub next : r.next ≡ a.next
   pub memory : d ≡ a.memory

@@ -2,10 +2,12 @@
 // Relies on the player of one line; the program relies on it.
 #![tactic(auto)]
 
+ghost use Rattle.std.specs.Prelude.{◌≡◌, ◌<◌, [], ◌∷◌, ◌++◌, length};
 ghost use Rattle.answers.specs.Answered.{Answers, answer_at};
 
 use answer_writer::refused_line;
-use line_writer::line::{Line, empty, put_byte};
+use line_writer::line::Line;
+use model::refusal::Refusal;
 use player::line::play_line;
 use scan::find;
 
@@ -17,20 +19,30 @@ pub struct SheetAnswer {
     pub next: usize,
 }
 
-// The answer to the line that starts at `at`; none at the sheet's end.
+// A line with the LF that ends it.
+fn ended(line: Line) -> Line
+    requires { length line < 512 }
+    ensures { result ≡ line ++ 10 ∷ [] }
+{
+    let mut whole = line;
+    whole.push(b'\n');
+    whole
+}
+
+// The answer to the line that starts at `at`; an empty one at the sheet's end.
 pub fn next_answer(sheet: &[u8], at: usize, laid: usize, memory: &mut [u8]) -> SheetAnswer
     ensures { Answers (answer_at sheet.now at laid memory.old) result memory.new }
 {
     if sheet.len() <= at {
         return SheetAnswer {
-            line: empty(),
+            line: Line::new(),
             laid,
             next: at,
         };
     }
     if 32768 < sheet.len() {
         return SheetAnswer {
-            line: put_byte(refused_line(1), b'\n'),
+            line: ended(refused_line(Refusal::SheetTooLong)),
             laid,
             next: sheet.len(),
         };
@@ -38,7 +50,7 @@ pub fn next_answer(sheet: &[u8], at: usize, laid: usize, memory: &mut [u8]) -> S
     let end = find(sheet, at, b'\n');
     let played = play_line(&sheet[at..end], laid, memory);
     SheetAnswer {
-        line: put_byte(played.line, b'\n'),
+        line: ended(played.line),
         laid: played.laid,
         next: end + 1,
     }

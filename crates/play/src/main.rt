@@ -16,9 +16,7 @@ fn main(rt: HostRuntime) {
     let mut laid = 0;
     while at < len {
         let answer = next_answer(&sheet[..len], at, laid, &mut memory);
-        let bytes = answer.line.bytes;
-        let count = answer.line.len;
-        if rt.write_all(&bytes[..count]).is_err() {
+        if rt.write_all(answer.line.as_slice()).is_err() {
             return;
         }
         laid = answer.laid;

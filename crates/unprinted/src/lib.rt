@@ -10,19 +10,16 @@ ghost use Rattle.unprinted.specs.Done.{Done, PairsDone};
 use calls::{lay, propose};
 use codec::places::board_length;
 use line_proposals::propose_line;
-use model::Verdict;
-use player::line::least;
 
 // What is handed back is how many bytes of the memory are the board that was laid last.
 pub fn lay_unprinted(memory: &mut [u8], laid: usize, n: u8, k: u8) -> usize
     ensures { Done (play_form laid memory.old (forms.board n k)) result memory.new }
 {
-    let need = board_length(n as usize, k as usize);
-    let part = least(need, memory.len());
-    let laying = lay(&mut memory[..part], n, k);
-    match laying {
-        Verdict::Refused { number: _ } => laid,
-        Verdict::Accepted => need,
+    let need = board_length(usize::from(n), usize::from(k));
+    let part = need.min(memory.len());
+    match lay(&mut memory[..part], n, k) {
+        Ok(()) => need,
+        Err(_) => laid,
     }
 }
 
@@ -33,8 +30,8 @@ pub fn propose_unprinted(memory: &mut [u8], laid: usize, station: u8, figure: i3
     if laid == 0 {
         return;
     }
-    let part = least(laid, memory.len());
-    propose(&mut memory[..part], station, figure);
+    let part = laid.min(memory.len());
+    let _ = propose(&mut memory[..part], station, figure);
 }
 
 // The pairs of a line that was read as such, from `at` on.
@@ -45,6 +42,6 @@ pub fn propose_all_unprinted(memory: &mut [u8], laid: usize, line: &[u8], at: us
     if laid == 0 {
         return;
     }
-    let part = least(laid, memory.len());
-    propose_line(&mut memory[..part], line, at);
+    let part = laid.min(memory.len());
+    let _ = propose_line(&mut memory[..part], line, at);
 }

@@ -11,4 +11,4 @@ pub slice_bounds-propose-end-2 : goal.slice_bounds-propose-end-2
 slice_bounds-propose-end-2 c = search part_length
 
 pub returns : goal.returns
-returns c = same_proposed _ _ _ _ _ _ (to_z-of_z c.ranges.figure) (one_proposed _ _ _ _ _ _ _ c.if-laid-eq0.false c.least-part.ensures c.propose.ensures)
+returns c = same_proposed _ _ _ _ _ _ (to_z-of_z c.ranges.figure) (one_proposed _ _ _ _ _ _ _ c.if-laid-eq0.false c.min-part.ensures c.propose.ensures)
