@@ -2,6 +2,8 @@
 -- Relies on the model's tape of single calls and on a tape as it is written; the contracts of the crate rely on it, and
 -- so do those of the algorithm's own line and of the tape of a sheet.
 use Rattle.std.specs.Prelude.{◌≡◌, cond, List, [], ◌∷◌, ℕ, ◌+◌, ◌*◌, ◌≤◌, ◌<◌, eqb, length, take}
+use Rattle.std.specs.declared.result.Result.{Result}
+use Rattle.model.specs.declared.refusal.Refusal.{Refusal}
 use Rattle.model.specs.Forms.{word_place, read_line}
 use Rattle.model.specs.Sheet.{play_line}
 use Rattle.model.specs.AnyList.{Call, after}
@@ -9,7 +11,7 @@ use Rattle.model.specs.SheetList.{calls_of}
 use Rattle.model.specs.Tape.{Entry, tape_of}
 use Rattle.line_run.specs.LineRuns.{LineCounts}
 use Rattle.sheet.specs.declared.form.LineForm.{LineForm}
-use Rattle.sheet.specs.LineForms.{line_form}
+use Rattle.sheet.specs.LineForms.{told, line_form}
 use Rattle.taping.specs.declared.Taped.{Taped}
 use Rattle.taping.specs.Taping.{Taping, line_taken, slot, taping}
 use Rattle.taped_line.specs.declared.TapedLine.{TapedLine}
@@ -30,9 +32,9 @@ window out t = taping [] out t
 unfoldable pub Room : (out : List ℕ) → Taped → Type 0
 Room out t = t.len + slot * t.room ≤ length out
 
--- f is the form that the code reads the line as
-abbrev pub IsRead : LineForm → (line : List ℕ) → Type 0
-IsRead f line = f ≡ line_form (word_place line) (read_line line)
+-- f is what the code reads the line as
+abbrev pub IsRead : Result LineForm Refusal → (line : List ℕ) → Type 0
+IsRead f line = told f ≡ line_form (word_place line) (read_line line)
 
 -- Single calls on the board b were taped: their entries, and the board that they leave, as long as more lines are
 -- wanted.

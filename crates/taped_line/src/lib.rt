@@ -14,8 +14,8 @@ ghost use Rattle.taped_line.specs.TapedLines.{Room, IsRead, Passable, LineCallsT
 
 use lexer::known::known_number;
 use line_run::run_items;
-use model::Verdict;
-use player::line::{least, play_line};
+use model::refusal::Refusal;
+use player::line::play_line;
 use rounds::refusing::rounds_refusal;
 use sheet::form::{LineForm, read_line};
 use soundness::board::check_board;
@@ -38,13 +38,13 @@ fn pass_items(board: &mut [u8], line: &[u8], at: usize, taped: Taped) -> Taped
 {
     let run = run_items(board, line, at);
     Taped {
-        left: taped.left - run.taken as usize,
-        room: taped.room,
-        len: taped.len,
+        left: taped.left - run.value as usize,
+        ..taped
     }
 }
 
 // A line that was read as `steps` with its items from `at` on and that count, on a lent board. One that is refused adds nothing.
+#[tactic(auto, using(crate::proofs::Laws::Passed::with_buffer))]
 fn steps_on(
     board: &mut [u8],
     line: &[u8],
@@ -56,30 +56,18 @@ fn steps_on(
     requires { LineCounts line.now at count × Room out.old taped }
     ensures { LineCallsTaped line.now board.old out.old taped result board.new out.new }
 {
-    if 65536 < count {
+    if 65536 < count || check_board(board).is_err() {
         return taped;
     }
-    let checked = check_board(board);
-    match checked {
-        Verdict::Refused { number: _ } => taped,
-        Verdict::Accepted => {
-            let steps = count as usize;
-            if steps <= taped.left {
-                if 0 < taped.room {
-                    return pass_items(board, line, at, taped);
-                }
-            }
-            let part = tape_items(board, line, at, out, taped);
-            Taped {
-                left: part.left,
-                room: part.room,
-                len: part.len,
-            }
-        }
+    let steps = count as usize;
+    if steps <= taped.left && 0 < taped.room {
+        return pass_items(board, line, at, taped);
     }
+    tape_items(board, line, at, out, taped).value
 }
 
 // A line that was read as `rounds`, for which a board must have `needs` stations.
+#[tactic(auto, using(crate::proofs::Laws::OnBoard::round_lines))]
 fn rounds_on(
     board: &mut [u8],
     line: &[u8],
@@ -92,14 +80,11 @@ fn rounds_on(
     requires { LineHas line.now at rounds needs × Room out.old taped }
     ensures { LineCallsTaped line.now board.old out.old taped result board.new out.new }
 {
-    let checked = rounds_refusal(board, needs);
-    match checked {
-        Verdict::Refused { number: _ } => taped,
-        Verdict::Accepted => {
-            let most = known_number(line, at + 1);
-            tape_rounds_at(board, line, most.next, out, taped)
-        }
+    if rounds_refusal(board, needs).is_err() {
+        return taped;
     }
+    let most = known_number(line, at + 1);
+    tape_rounds_at(board, line, most.next, out, taped)
 }
 
 // On the part of the memory that the board is; where none was laid, the part is empty and refuses every step.
@@ -115,7 +100,7 @@ fn tape_steps(
     requires { LineCounts line.now at count × Room out.old taped }
     ensures { LineTaped line.now laid memory.old out.old taped result memory.new out.new }
 {
-    let part = least(laid, memory.len());
+    let part = laid.min(memory.len());
     let taped = steps_on(&mut memory[..part], line, at, count, out, taped);
     TapedLine { laid, taped }
 }
@@ -133,14 +118,16 @@ fn tape_rounds(
     requires { LineHas line.now at rounds needs × Room out.old taped }
     ensures { LineTaped line.now laid memory.old out.old taped result memory.new out.new }
 {
-    let part = least(laid, memory.len());
+    let part = laid.min(memory.len());
     let taped = rounds_on(&mut memory[..part], line, at, rounds, needs, out, taped);
     TapedLine { laid, taped }
 }
 
 // A line that takes no step.
 fn play_on(memory: &mut [u8], laid: usize, line: &[u8], taped: Taped) -> TapedLine
-    ensures { (result.taped ≡ taped) × (result.laid ≡ (play_line laid memory.old line.now).laid) × (memory.new ≡ (play_line laid memory.old line.now).memory) }
+    ensures taped { result.taped ≡ taped }
+    ensures laid { result.laid ≡ (play_line laid memory.old line.now).laid }
+    ensures memory { memory.new ≡ (play_line laid memory.old line.now).memory }
 {
     let played = play_line(line, laid, memory);
     TapedLine {
@@ -149,10 +136,11 @@ fn play_on(memory: &mut [u8], laid: usize, line: &[u8], taped: Taped) -> TapedLi
     }
 }
 
-// A line as the form that it was read as, on a memory of any content and length.
+// A line as what it was read as, on a memory of any content and length.
+#[tactic(auto, using(crate::proofs::Laws::Played::reading))]
 pub fn tape_read(
     line: &[u8],
-    form: LineForm,
+    form: Result<LineForm, Refusal>,
     laid: usize,
     memory: &mut [u8],
     out: &mut [u8],
@@ -161,19 +149,15 @@ pub fn tape_read(
     requires { IsRead form line.now × Room out.old taped }
     ensures { LineTaped line.now laid memory.old out.old taped result memory.new out.new }
 {
+    let Ok(form) = form else {
+        return play_on(memory, laid, line, taped);
+    };
     match form {
         LineForm::Steps { at, count } => tape_steps(memory, laid, line, at, count, out, taped),
         LineForm::Rounds { at, rounds, needs } => {
             tape_rounds(memory, laid, line, at, rounds, needs, out, taped)
         }
-        LineForm::Board { n: _, k: _ } => play_on(memory, laid, line, taped),
-        LineForm::Propose {
-            station: _,
-            figure: _,
-        } => play_on(memory, laid, line, taped),
-        LineForm::Proposals { at: _, pairs: _ } => play_on(memory, laid, line, taped),
-        LineForm::Show => play_on(memory, laid, line, taped),
-        LineForm::Refused { number: _ } => play_on(memory, laid, line, taped),
+        _ => play_on(memory, laid, line, taped),
     }
 }
 

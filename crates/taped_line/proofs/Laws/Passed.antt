@@ -3,7 +3,7 @@
 use Rattle.model.proofs.Kit.{◌≡◌, List, [], none, ℕ, ◌-◌, ◌≤◌, ◌<◌, arith}
 use Rattle.model.specs.Calls.{board_refusal}
 use Rattle.item_walks.specs.ItemWalks.{PartDone}
-use Rattle.line_run.specs.declared.PartRun.{PartRun}
+use Rattle.lexer.specs.declared.At.{At}
 use Rattle.line_run.specs.LineRuns.{ItemsRunnable, RunFrom, ItemsRun, LineCounts}
 use Rattle.line_run.proofs.Laws.Counting.{counted, its_items, items_there, line_reads, taken_below}
 use Rattle.taping.specs.declared.Taped.{Taped}
@@ -25,16 +25,16 @@ module _ (line : List ℕ) (at : ℕ) (t : Taped) (h : Passable line at t) where
   pub pass_runnable : ItemsRunnable line at
   pass_runnable = line_reads line at h.count h.counts h.few
 
-  module _ (b : List ℕ) (w : PartRun) (d : List ℕ) (run : ItemsRun line at b w d) where
-    pub taken_left : w.taken ≤ t.left
+  module _ (b : List ℕ) (w : At ℕ) (d : List ℕ) (run : ItemsRun line at b w d) where
+    pub taken_left : w.value ≤ t.left
     taken_left = omega (arith, h.below, taken_below line at h.count h.counts h.few b w d run)
 
     pub line_passed : board_refusal b none ≡ none
-        → LinePassed line b t (record { left = t.left - w.taken; room = t.room; len = t.len }) d
+        → LinePassed line b t (record { left = t.left - w.value; room = t.room; len = t.len }) d
     unfolding LinePassed PartDone RunFrom
     line_passed sound out =
         let s = its_items line at h.count h.counts in
         steps_done line at h.count h.counts b out t h.few sound _ d out
         (all_passed _ b out t (λ e. omega (arith, h.wanted))
-        (omega (arith, h.few, h.below, (counted line at h.count h.counts s.0 s.1).1)) w.taken d
+        (omega (arith, h.few, h.below, (counted line at h.count h.counts s.0 s.1).1)) w.value d
         (run _ s.0 [] (items_there line at h.count h.counts s.0 s.1)).ran)

@@ -1,12 +1,8 @@
 -- `tape_steps` meets its contract: the line on the part of the memory that the board is.
 -- Relies on the laws of a line that takes steps.
-use Rattle.player.proofs.Laws.Parts.{part_length}
 use Rattle.taped_line.proofs.Laws.Lines.{on_part}
 use Rattle.taped_line.proofs.Laws.OnBoard.{counted_only}
 use Rattle.taped_line.proofs.tape_steps.Goals as goal
-
-pub slice_bounds-steps_on-end-2 : goal.slice_bounds-steps_on-end-2
-slice_bounds-steps_on-end-2 c = search part_length
 
 pub returns : goal.returns
 returns c = search (on_part, counted_only)
