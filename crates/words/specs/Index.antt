@@ -1,69 +1,36 @@
--- The index of each word in the store, as src/index.rt has it: a law names a word by it.
--- Relies on nothing; the laws of those who read and write words rely on it.
-use Rattle.std.specs.Prelude.{ℕ}
+-- The place of each word in the store, as src/index.rt has it: contracts and laws name a word by it.
+-- Relies on the code's names of words; the contracts of the store, and the laws of those who read and write words, rely on it.
+use Rattle.std.specs.Prelude.{ℕ, length, Some, None}
+use Rattle.std.specs.declared.option.Option.{Option}
+use Rattle.words.specs.declared.index.Word as names
+use Rattle.words.specs.declared.index.Word.TheVariants as word
+use Rattle.words.specs.Store.{words}
 
-abbrev pub times : ℕ
-times = 0
+abbrev pub place : names.Word → ℕ
+place word.Times = 0
+place word.Read = 1
+place word.Wrote = 2
+place word.Going = 3
+place word.Decided = 4
+place word.Spent = 5
+place word.Went = 6
+place word.Marked = 7
+place word.Adopted = 8
+place word.Idle = 9
+place word.Steps = 10
+place word.Propose = 11
+place word.Show = 12
+place word.Board = 13
+place word.Rounds = 14
+place word.Ran = 15
+place word.Proposed = 16
+place word.Laid = 17
+place word.Played = 18
+place word.Refused = 19
+place word.Stations = 20
+place word.Nothing = 21
 
-abbrev pub read : ℕ
-read = 1
-
-abbrev pub wrote : ℕ
-wrote = 2
-
-abbrev pub going : ℕ
-going = 3
-
-abbrev pub decided : ℕ
-decided = 4
-
-abbrev pub spent : ℕ
-spent = 5
-
-abbrev pub went : ℕ
-went = 6
-
-abbrev pub marked : ℕ
-marked = 7
-
-abbrev pub adopted : ℕ
-adopted = 8
-
-abbrev pub idle : ℕ
-idle = 9
-
-abbrev pub steps : ℕ
-steps = 10
-
-abbrev pub propose : ℕ
-propose = 11
-
-abbrev pub show : ℕ
-show = 12
-
-abbrev pub board : ℕ
-board = 13
-
-abbrev pub rounds : ℕ
-rounds = 14
-
-abbrev pub ran : ℕ
-ran = 15
-
-abbrev pub proposed : ℕ
-proposed = 16
-
-abbrev pub laid : ℕ
-laid = 17
-
-abbrev pub played : ℕ
-played = 18
-
-abbrev pub refused : ℕ
-refused = 19
-
-abbrev pub stations : ℕ
-stations = 20
-
-abbrev pub none : ℕ
-none = 21
+-- the place of a word that is found, and the number of all words where none is
+abbrev pub place_or_all : Option names.Word → ℕ
+place_or_all (Some w) = place w
+place_or_all None = length words

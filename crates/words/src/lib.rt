@@ -1,11 +1,13 @@
 // The word store: every word of a run sheet's forms and answers, of a tape line and of what is said of two tapes. Each stands
-// once, end to end with the others, beside the lengths of all; a word is named by its index.
+// once, end to end with the others, beside the lengths of all; a word is named by its variant of `Word`.
 // Relies on the writer of lines; nothing rests on it yet.
 #![tactic(auto)]
 
-ghost use Rattle.std.specs.Prelude.{◌≡◌, ◌+◌, ◌<◌, ◌≤◌, ◌++◌, length, unwrap_or, IfSome};
+ghost use Rattle.std.specs.Prelude.{◌≡◌, ◌+◌, ◌<◌, ◌≤◌, ◌++◌, length, IfSome};
+ghost use Rattle.words.specs.Index.{place, place_or_all};
 ghost use Rattle.words.specs.Store.{Packed, words, word_text, index_in};
 
+use crate::index::Word;
 use line_writer::line::Line;
 
 pub mod index;
@@ -52,39 +54,38 @@ fn packed() -> Store
     WORDS
 }
 
-// The index of the word that a part is, if any. The number of all words stands for none in the definitions.
-pub fn index_of(part: &[u8]) -> Option<usize>
-    ensures index { unwrap_or result (length words) ≡ index_in words part.now }
-    ensures inside { IfSome result (λ word. word < length words) }
+// The word that a part is, if any. The number of all words stands for none in the definitions.
+pub fn word_of(part: &[u8]) -> Option<Word>
+    ensures index { place_or_all result ≡ index_in words part.now }
+    ensures inside { IfSome result (λ word. place word < length words) }
 {
     let store = packed();
     let lengths = store.lengths;
     let letters = store.letters;
     let mut from = 0;
-    for (word, &length) in lengths.iter().enumerate() {
+    for (place, &length) in lengths.iter().enumerate() {
         let end = from + usize::from(length);
         if part == &letters[from..end] {
-            return Some(word);
+            return Word::try_from(place).ok();
         }
         from = end;
     }
     None
 }
 
-// The word with an index, put at a line's end. No text belongs to an index that names no word.
-pub fn write_named(line: &mut Line, word: usize)
-    requires { length line.old + length (word_text word) ≤ 512 }
-    ensures { line.new ≡ line.old ++ word_text word }
+// A word, put at a line's end.
+pub fn write_named(line: &mut Line, word: Word)
+    requires { length line.old + length (word_text (place word)) ≤ 512 }
+    ensures { line.new ≡ line.old ++ word_text (place word) }
 {
     let store = packed();
     let lengths = store.lengths;
     let letters = store.letters;
-    if let Some(&length) = lengths.get(word) {
-        let from: usize = lengths[..word]
-            .iter()
-            .map(|&length| usize::from(length))
-            .sum();
-        let end = from + usize::from(length);
-        line.push_word(&letters[from..end]);
-    }
+    let place = usize::from(word);
+    let from: usize = lengths[..place]
+        .iter()
+        .map(|&length| usize::from(length))
+        .sum();
+    let end = from + usize::from(lengths[place]);
+    line.push_word(&letters[from..end]);
 }

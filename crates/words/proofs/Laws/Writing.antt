@@ -41,4 +41,4 @@ word_short i = by_test (ltb i (length words)) inside outside
 
     outside : ltb i (length words) ≡ false → length (get_or words i []) ≤ 8
     outside e =
-        omega (arith, ap length (get_or-eq_default words [] {n = i} (ltb-false i (length words) e)))
+        omega (arith, ap length (no_word (ltb-false i (length words) e)))
