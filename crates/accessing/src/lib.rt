@@ -45,11 +45,14 @@ fn total_with(board: &[u8], at: usize, register: Register) -> u8
     board[at + 6] + u8::from(register.mark != 0)
 }
 
-// A move's answer with the total of the collect that it ended. The other cases have none, and are handed back.
+// A move's answer with the total of the collect that it ended. The other cases have none, and are made anew too: an answer that
+// is handed back whole is put together in one number, six instructions more in every step.
 fn with_total(answer: StepAnswer, total: u8) -> StepAnswer
     ensures { told result ≡ report (told answer).did (told answer).met total }
 {
     match answer {
+        StepAnswer::Wrote => StepAnswer::Wrote,
+        StepAnswer::Read { filled } => StepAnswer::Read { filled },
         StepAnswer::Went { island, figure, .. } => StepAnswer::Went {
             island,
             total,
@@ -75,7 +78,7 @@ fn with_total(answer: StepAnswer, total: u8) -> StepAnswer
             total,
             figure,
         },
-        other => other,
+        StepAnswer::Refused { number } => StepAnswer::Refused { number },
     }
 }
 

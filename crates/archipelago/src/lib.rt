@@ -5,12 +5,12 @@
 mod finish;
 mod read;
 
-ghost use Rattle.std.specs.Prelude.{◌≡◌, ◌<◌};
+ghost use Rattle.std.specs.Prelude.{◌≡◌, ◌+◌};
 ghost use Rattle.archipelago.specs.Advanced.{Moves, Ready, writing};
 
 use collect::Turn;
 use model::marks::WRITTEN;
-use model::phase::{READ_A, READ_M, WRITE_A, WRITE_B, WRITE_M};
+use model::phase::{READ_A, READ_B, READ_M, WRITE_A, WRITE_B, WRITE_M};
 use model::{Record, Register, StepAnswer};
 use read::read;
 
@@ -23,31 +23,29 @@ pub struct Moved {
 }
 
 // `register` is the one that the station reads; a write does not look at it. The cases are the listing's, in its order:
-// write and read m, write and read A, write and read B.
+// write and read m, write and read A, write and read B. The writes share one call, so that what they write stays in registers.
 pub fn advance(n: u8, k: u8, station: Record, register: Register) -> Moved
     requires { Ready n k station }
     ensures { Moves n k station register result }
 {
-    match station.phase {
-        WRITE_M => write(station, WRITTEN, station.island),
-        READ_M => read(Turn::M, n, k, station, register),
-        WRITE_A => write(station, WRITTEN, 0),
-        READ_A => read(Turn::A, n, k, station, register),
-        WRITE_B => write(station, station.flag, 0),
-        _ => read(Turn::B, n, k, station, register),
-    }
+    let (next, mark, island) = match station.phase {
+        WRITE_M => (READ_M, WRITTEN, station.island),
+        READ_M => return read(Turn::M, n, k, station, register),
+        WRITE_A => (READ_A, WRITTEN, 0),
+        READ_A => return read(Turn::A, n, k, station, register),
+        WRITE_B => (READ_B, station.flag, 0),
+        _ => return read(Turn::B, n, k, station, register),
+    };
+    write(station, next, mark, island)
 }
 
 // The read phase of an array follows its write phase. The other fields of a write phase are zero already, as a read begins.
-fn write(station: Record, mark: u8, island: u8) -> Moved
-    requires { station.phase < 6 }
+fn write(station: Record, phase: u8, mark: u8, island: u8) -> Moved
+    requires { phase ≡ station.phase + 1 }
     ensures { result ≡ writing station mark island }
 {
     Moved {
-        station: Record {
-            phase: station.phase + 1,
-            ..station
-        },
+        station: Record { phase, ..station },
         written: Some(Register {
             mark,
             island,

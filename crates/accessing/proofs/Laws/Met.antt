@@ -9,7 +9,7 @@ use Rattle.std.specs.Prelude.{Some, None}
 use Rattle.model.specs.declared.Record.{Record}
 use Rattle.model.specs.declared.Register as Fields
 use Rattle.model.specs.declared.StepAnswer.{StepAnswer}
-use Rattle.model.specs.declared.StepAnswer.TheVariants.{Wrote, Read, Went, Marked, Adopted, Decided, Spent, Refused}
+use Rattle.model.specs.declared.StepAnswer.TheVariants.{Wrote, Read}
 use Rattle.model.specs.Bytes.{byte}
 use Rattle.model.specs.Figure.{Figure, figures}
 use Rattle.model.specs.Listing.{Register, Turn, Seen, Stage, writing, reading, has_decided, is_spent, active}
@@ -78,20 +78,13 @@ with_figure y same a c k i v w e q =
     ap (λ (u : Figure). told (y c k u)) q ∙ same c k i v
     ∙ ap (λ (z : StepAnswer). report (told z).did (told z).met k) (sym e)
 
--- the other cases have no total
-pub no_total : (a : StepAnswer) (k : ℕ)
-    → ((c i : ℕ) (v : Figure) → a ≡ Went c i v → ⊥) → ((c i : ℕ) (v : Figure) → a ≡ Marked c i v → ⊥)
-    → ((c i : ℕ) (v : Figure) → a ≡ Adopted c i v → ⊥) → ((c i : ℕ) (v : Figure) → a ≡ Decided c i v → ⊥)
-    → ((c i : ℕ) (v : Figure) → a ≡ Spent c i v → ⊥) → told a ≡ report (told a).did (told a).met k
+pub without : {A : Type 0} (y : A → StepAnswer) → ((x : A) (k : ℕ) → told (y x) ≡ report (told (y x)).did (told (y x)).met k)
+    → (a : StepAnswer) (k : ℕ) (x : A) → a ≡ y x → told (y x) ≡ report (told a).did (told a).met k
+without y same a k x e = same x k ∙ ap (λ (z : StepAnswer). report (told z).did (told z).met k) (sym e)
+
+pub wrote_without : (a : StepAnswer) (k : ℕ) → a ≡ Wrote → told Wrote ≡ report (told a).did (told a).met k
 unfolding told reported
-no_total Wrote k w m o d s = refl
-no_total (Read l) k w m o d s = refl
-no_total (Went c i v) k w m o d s = absurd (w c i v refl)
-no_total (Marked c i v) k w m o d s = absurd (m c i v refl)
-no_total (Adopted c i v) k w m o d s = absurd (o c i v refl)
-no_total (Decided c i v) k w m o d s = absurd (d c i v refl)
-no_total (Spent c i v) k w m o d s = absurd (s c i v refl)
-no_total (Refused n) k w m o d s = refl
+wrote_without a k e = without {A = ℕ} (λ x. Wrote) (λ x j. refl) a k 0 e
 
 -- the move z of the station with the record f over the register g: its collect had met `before`, and has met `total` with
 -- it

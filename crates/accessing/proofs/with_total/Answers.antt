@@ -1,11 +1,19 @@
 -- `with_total` meets its contract: each case is told with the total, if it has one.
 use Rattle.model.proofs.Kit.{refl}
-use Rattle.model.specs.declared.StepAnswer.TheVariants.{Went, Marked, Adopted, Decided, Spent}
+use Rattle.model.specs.declared.StepAnswer.TheVariants.{Read, Went, Marked, Adopted, Decided, Spent, Refused}
 use Rattle.model.specs.Filled.{reported}
 use Rattle.model.specs.Told.{told}
 use Rattle.model.proofs.Basics.Numbers.{landed}
-use Rattle.accessing.proofs.Laws.Met.{with_figure, no_total}
+use Rattle.accessing.proofs.Laws.Met.{with_figure, without, wrote_without}
 use Rattle.accessing.proofs.with_total.Goals as goal
+
+pub returns-in-Wrote : goal.returns-in-Wrote
+unfolding told reported
+returns-in-Wrote c = search wrote_without
+
+pub returns-in-Read : goal.returns-in-Read
+unfolding told reported
+returns-in-Read c = search (without Read (λ x k. refl))
 
 pub returns-in-Went : goal.returns-in-Went
 unfolding told reported
@@ -27,6 +35,6 @@ pub returns-in-Spent : goal.returns-in-Spent
 unfolding told reported
 returns-in-Spent c = search (with_figure Spent (λ i k j v. refl), landed)
 
-pub returns-in_default : goal.returns-in_default
-returns-in_default c =
-    let o = c.in_default in no_total _ _ o.not-Went o.not-Marked o.not-Adopted o.not-Decided o.not-Spent
+pub returns-in-Refused : goal.returns-in-Refused
+unfolding told reported
+returns-in-Refused c = search (without Refused (λ x k. refl))

@@ -6,4 +6,6 @@ use Rattle.archipelago.proofs.write.Goals as goal
 
 pub returns : goal.returns
 unfolding writing changed
-returns c = search landed
+returns c =
+    let f = c.args.station in
+    cc (c.requires, landed f.proposal (search), landed f.carried (search), landed f.best (search))
