@@ -5,6 +5,8 @@ use Rattle.std.specs.Prelude.{◌≡◌, Bool, false, cond, List, [], ◌∷◌,
 use Rattle.model.specs.Layout.{board_length}
 use Rattle.model.specs.Sheet.{play_line, lines_of}
 use Rattle.model.specs.Tape.{Entry, entry_text, sheet_tape, tape_text}
+use Rattle.std.specs.declared.result.Result.{Result}
+use Rattle.model.specs.declared.refusal.Refusal.{Refusal}
 use Rattle.sheet.specs.declared.form.LineForm.{LineForm}
 use Rattle.taping.specs.declared.Taped.{Taped}
 use Rattle.taped_line.specs.declared.TapedLine.{TapedLine}
@@ -48,12 +50,12 @@ unfoldable pub most_steps : ℕ
 most_steps = 69632
 
 -- The test t of a form: where it fails, the tape of a line that is read so has fewer lines than there is room for.
-unfoldable pub MayFill : (rooms : ℕ) → LineForm → (t : Bool) → Type 0
+unfoldable pub MayFill : (rooms : ℕ) → Result LineForm Refusal → (t : Bool) → Type 0
 MayFill rooms f t =
     t ≡ false → (line : List ℕ) (laid : ℕ) (m : List ℕ) → IsRead f line → length (line_tape laid m line) < rooms
 
 -- the memory m stands in k, if the tape of a line that is read so fills the room that there is
-unfoldable pub Kept : (rooms : ℕ) → LineForm → (m k : List ℕ) → Type 0
+unfoldable pub Kept : (rooms : ℕ) → Result LineForm Refusal → (m k : List ℕ) → Type 0
 Kept rooms f m k = (line : List ℕ) (laid : ℕ) → IsRead f line → rooms ≤ length (line_tape laid m line) → k ≡ m
 
 -- a line was taped, and left the memory as it was where its tape filled the buffer

@@ -7,6 +7,7 @@ ghost use Rattle.taped_line.specs.TapedLines.{Room};
 ghost use Rattle.taped_sheet.specs.SheetParts.{MayFill, Kept, LineTried, PartIs, part_at};
 
 use lines::line_end;
+use model::refusal::Refusal;
 use sheet::form::{LineForm, read_line};
 use taped_line::{TapedLine, tape_read};
 use taping::Taped;
@@ -23,29 +24,22 @@ pub struct SheetPart {
 
 // Whether a line of this form may take as many steps as there is room for. A round takes 272 at most: 16 stations, each with
 // its turn of 17.
-fn may_fill(form: LineForm, rooms: usize) -> bool
+fn may_fill(form: Result<LineForm, Refusal>, rooms: usize) -> bool
     requires { 1 ≤ rooms }
     ensures { MayFill rooms form result }
 {
+    let Ok(form) = form else {
+        return false;
+    };
     match form {
-        LineForm::Steps { at: _, count } => rooms <= count as usize,
-        LineForm::Rounds {
-            at: _,
-            rounds,
-            needs: _,
-        } => rooms / 272 <= rounds,
-        LineForm::Board { n: _, k: _ } => false,
-        LineForm::Propose {
-            station: _,
-            figure: _,
-        } => false,
-        LineForm::Proposals { at: _, pairs: _ } => false,
-        LineForm::Show => false,
-        LineForm::Refused { number: _ } => false,
+        LineForm::Steps { count, .. } => rooms <= count as usize,
+        LineForm::Rounds { rounds, .. } => rooms / 272 <= rounds,
+        _ => false,
     }
 }
 
 // Bytes put over as many others.
+#[tactic(auto, using(crate::proofs::Laws::Keeping::copied))]
 fn copy_all(from: &[u8], to: &mut [u8])
     requires { length to.old ≡ length from.now }
     ensures { to.new ≡ from.now }
@@ -54,7 +48,8 @@ fn copy_all(from: &[u8], to: &mut [u8])
 }
 
 // The memory before such a line is kept.
-fn keep(form: LineForm, rooms: usize, memory: &[u8], kept: &mut [u8])
+#[tactic(auto, using(crate::proofs::Laws::Keeping::keeping))]
+fn keep(form: Result<LineForm, Refusal>, rooms: usize, memory: &[u8], kept: &mut [u8])
     requires { (1 ≤ rooms) × (length kept.old ≡ length memory.now) }
     ensures { Kept rooms form memory.now kept.new }
 {
@@ -64,6 +59,7 @@ fn keep(form: LineForm, rooms: usize, memory: &[u8], kept: &mut [u8])
 }
 
 // A line taped. Where its tape fills the buffer, the memory is put back as it was before the line.
+#[tactic(auto, using(crate::proofs::Laws::Keeping::gone_on))]
 fn try_line(
     line: &[u8],
     laid: usize,

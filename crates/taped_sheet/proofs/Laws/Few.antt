@@ -18,9 +18,11 @@ use Rattle.model.specs.AnyList as calls
 use Rattle.model.proofs.Basics.Tests.{cond_case}
 use Rattle.model.proofs.Calls.Refusals.{board_of_lem}
 use Rattle.line_rounds.proofs.Laws.WholeLine.{few}
+use Rattle.std.specs.declared.result.Result.{Result}
+use Rattle.model.specs.declared.refusal.Refusal.{Refusal}
 use Rattle.sheet.specs.declared.form.LineForm.{LineForm}
 use Rattle.sheet.specs.declared.form.LineForm.TheVariants as lines
-use Rattle.sheet.specs.LineForms.{line_form}
+use Rattle.sheet.specs.LineForms.{told, line_form}
 use Rattle.item_reader.specs.Counts.{capped}
 use Rattle.taped_sheet.specs.SheetParts.{most_steps, MayFill}
 use Rattle.taped_line.specs.TapedLines.{line_tape}
@@ -150,14 +152,25 @@ module _ (laid : ℕ) (m line : List ℕ) where
 -- ---- a line that cannot fill the buffer
 
 -- the test that the code makes; a round takes 272 steps at most
-unfoldable pub may_fill : (rooms : ℕ) → LineForm → Bool
-may_fill rooms (lines.Board n K) = false
-may_fill rooms (lines.Propose i v) = false
-may_fill rooms (lines.Steps at c) = leb rooms c
-may_fill rooms lines.Show = false
-may_fill rooms (lines.Rounds at n s) = leb (rooms / 272) n
-may_fill rooms (lines.Proposals at n) = false
-may_fill rooms (lines.Refused k) = false
+unfoldable pub may_fill : (rooms : ℕ) → Reading LineForm → Bool
+may_fill rooms (reads (lines.Board n K)) = false
+may_fill rooms (reads (lines.Propose i v)) = false
+may_fill rooms (reads (lines.Steps at c)) = leb rooms c
+may_fill rooms (reads lines.Show) = false
+may_fill rooms (reads (lines.Rounds at n s)) = leb (rooms / 272) n
+may_fill rooms (reads (lines.Proposals at n)) = false
+may_fill rooms (unread k) = false
+
+-- neither steps nor rounds
+pub never_fills : (rooms : ℕ) (x : LineForm) → ((at c : ℕ) → x ≡ lines.Steps at c → ⊥)
+    → ((at n s : ℕ) → x ≡ lines.Rounds at n s → ⊥) → false ≡ may_fill rooms (reads x)
+unfolding may_fill
+never_fills rooms (lines.Board n K) no-steps no-rounds = refl
+never_fills rooms (lines.Propose i v) no-steps no-rounds = refl
+never_fills rooms (lines.Steps at c) no-steps no-rounds = absurd (no-steps at c refl)
+never_fills rooms lines.Show no-steps no-rounds = refl
+never_fills rooms (lines.Rounds at n s) no-steps no-rounds = absurd (no-rounds at n s refl)
+never_fills rooms (lines.Proposals at n) no-steps no-rounds = refl
 
 module _ (rooms : ℕ) (some_room : 1 ≤ rooms) where
   fewer : (at : ℕ) (r : Reading Form) → may_fill rooms (line_form at r) ≡ false → most r < rooms
@@ -171,11 +184,11 @@ module _ (rooms : ℕ) (some_room : 1 ≤ rooms) where
   fewer at (reads (forms.rounds k rs)) e = omega (arith, leb-false (rooms / 272) (length rs) e)
 
   -- f is the form x
-  pub may_fill_lem : (f x : LineForm) (t : Bool) → f ≡ x → t ≡ may_fill rooms x → MayFill rooms f t
+  pub may_fill_lem : (f x : Result LineForm Refusal) (t : Bool) → f ≡ x → t ≡ may_fill rooms (told x) → MayFill rooms f t
   unfolding MayFill
   may_fill_lem f x t e h n line laid m read =
       omega (
         arith,
         line_most laid m line (read_line line) refl,
-        fewer (word_place line) (read_line line) (ap (may_fill rooms) (sym read ∙ e) ∙ sym h ∙ n),
+        fewer (word_place line) (read_line line) (ap (may_fill rooms) (sym read ∙ ap told e) ∙ sym h ∙ n),
       )

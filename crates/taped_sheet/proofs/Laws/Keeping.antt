@@ -2,6 +2,8 @@
 -- Relies on what entries leave in the buffer; the proofs of a line that is tried rely on it.
 use Rattle.model.proofs.Kit.{◌≡◌, ap, ◌∙◌, Bool, false, List, ◌++◌, append-nil, ℕ, ◌-◌, ◌≤◌, length, take}
 use Rattle.model.proofs.Kit.{drop, take_all, length-drop, drop_of_length-le, arith}
+use Rattle.std.specs.declared.result.Result.{Result}
+use Rattle.model.specs.declared.refusal.Refusal.{Refusal}
 use Rattle.sheet.specs.declared.form.LineForm.{LineForm}
 use Rattle.taping.specs.declared.Taped.{Taped}
 use Rattle.taping.specs.Taping.{Taping}
@@ -16,7 +18,7 @@ copied a b c e h =
     h ∙ (λ j. take_all (length a) a (omega arith) j ++ drop_of_length-le b {i = length a} (omega arith) j)
     ∙ append-nil a
 
-module _ (rooms : ℕ) (f : LineForm) (m k : List ℕ) where
+module _ (rooms : ℕ) (f : Result LineForm Refusal) (m k : List ℕ) where
   pub kept : k ≡ m → Kept rooms f m k
   unfolding Kept
   kept e line laid read fills = e
@@ -28,7 +30,7 @@ module _ (rooms : ℕ) (f : LineForm) (m k : List ℕ) where
 module _ (line : List ℕ) (laid : ℕ) (m out : List ℕ) (t : Taped) (r : TapedLine) (d o : List ℕ)
     (taped : LineTaped line laid m out t r d o) where
   -- the buffer is full
-  pub put_back : (f : LineForm) → IsRead f line → (k : List ℕ) → Kept t.room f m k
+  pub put_back : (f : Result LineForm Refusal) → IsRead f line → (k : List ℕ) → Kept t.room f m k
       → (b : List ℕ) → b ≡ k → r.taped.room ≡ 0 → LineTried line laid m out t r b o
   unfolding Kept
   put_back f read k kept b is full = record {
@@ -45,3 +47,6 @@ module _ (line : List ℕ) (laid : ℕ) (m out : List ℕ) (t : Taped) (r : Tape
   -- more lines are wanted
   pub gone_on : (r.taped.room ≡ 0 → ⊥) → LineTried line laid m out t r d o
   gone_on wanted = record { taped = taped; back = λ e. absurd (wanted e) }
+
+-- what the code finds by itself
+pub ruleset keeping = (kept, not_kept)
