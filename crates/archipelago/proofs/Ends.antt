@@ -1,4 +1,5 @@
--- The ends of a collect on a record's fields: what each branch of `finish` and `onward` returns is the listing's move. Relies on Collected, Advanced and the listing; the proofs of src/finish.rt rely on it.
+-- The ends of a collect on a record's fields: what each branch of `finish` and `onward` returns is the listing's move.
+-- Relies on Collected, Advanced and the listing; the proofs of src/finish.rt rely on it.
 use Rattle.model.proofs.Kit.{◌≡◌, refl, sym, ap, subst, ◌∙◌, Bool, cond, ℕ, zero, suc, ◌+◌, ◌≤◌, ◌<◌, lt-ltb}
 use Rattle.model.proofs.Kit.{le-ltb, eqb, arith}
 use Rattle.model.specs.declared.Record.{Record}
@@ -53,7 +54,8 @@ module _ (K : ℕ) (f : Record) (c : ℕ) (x : Figure) where
   number_at a = seen_number (ended_seen c x a)
 
   end_m : (a : Seen Figure)
-      → Advanced f (ended K turn_m c x a) (begins 3 (island_at_lem a) 0 f (figure_at_lem a) (Went (island_at_lem a) 0 (figure_at_lem a)))
+      → Advanced f (ended K turn_m c x a)
+      (begins 3 (island_at_lem a) 0 f (figure_at_lem a) (Went (island_at_lem a) 0 (figure_at_lem a)))
   unfolding island_at_lem figure_at_lem ended_seen best_island best_figure ended finish stay begins staying Written told reported
       record_fields write_phase flag_byte
   end_m nothing = record { station = refl; written = refl; answer = refl }

@@ -8,7 +8,8 @@ use Rattle.model.specs.declared.StepAnswer.{StepAnswer}
 use Rattle.model.specs.declared.StepAnswer.TheVariants.{Wrote, Read, Marked}
 use Rattle.model.specs.Figure.{Figure, figures}
 use Rattle.model.specs.Listing.{Turn, Stage, nothing, reading, has_decided, active, decided, stay, ended, Register, Move, move}
-use Rattle.model.specs.Layout.{record_fields, record_value, register_fields, register_value, fields, changed, phase_is, position_is}
+use Rattle.model.specs.Layout.{record_fields, record_value, register_fields, register_value, fields, changed, phase_is}
+use Rattle.model.specs.Layout.{position_is}
 use Rattle.model.specs.Filled.{report}
 use Rattle.model.specs.Told.{told}
 use Rattle.archipelago.specs.declared.Moved.{Moved}

@@ -21,23 +21,23 @@ returns-in-2 c =
 pub returns-in-3 : goal.returns-in-3
 unfolding of_phase writing_of reading_of row_of place_array place_column array
 returns-in-3 c =
-    touch _ _ _ 3 (writing turn_a _ _) _ _ _ _ (omega arith) refl c.from-stations.ensures (ap (λ (x : ℕ). 1 + 2 * x) c.from-island.ensures) refl
-    c.register_offset-in-3.ensures
+    touch _ _ _ 3 (writing turn_a _ _) _ _ _ _ (omega arith) refl c.from-stations.ensures
+    (ap (λ (x : ℕ). 1 + 2 * x) c.from-island.ensures) refl c.register_offset-in-3.ensures
 
 pub returns-in-4 : goal.returns-in-4
 unfolding of_phase writing_of reading_of row_of place_array place_column array
 returns-in-4 c =
-    touch _ _ _ 4 (reading turn_a _ _ _ _) _ _ _ _ (omega arith) refl c.from-stations.ensures (ap (λ (x : ℕ). 1 + 2 * x) c.from-island.ensures) c.from-next.ensures
-    c.register_offset-in-4.ensures
+    touch _ _ _ 4 (reading turn_a _ _ _ _) _ _ _ _ (omega arith) refl c.from-stations.ensures
+    (ap (λ (x : ℕ). 1 + 2 * x) c.from-island.ensures) c.from-next.ensures c.register_offset-in-4.ensures
 
 pub returns-in-5 : goal.returns-in-5
 unfolding of_phase writing_of reading_of row_of place_array place_column array
 returns-in-5 c =
-    touch _ _ _ 5 (writing (turn_b _) _ _) _ _ _ _ (omega arith) refl c.from-stations.ensures (ap (λ (x : ℕ). 2 + 2 * x) c.from-island.ensures) refl
-    c.register_offset-in-5.ensures
+    touch _ _ _ 5 (writing (turn_b _) _ _) _ _ _ _ (omega arith) refl c.from-stations.ensures
+    (ap (λ (x : ℕ). 2 + 2 * x) c.from-island.ensures) refl c.register_offset-in-5.ensures
 
 pub returns-in_default : goal.returns-in_default
 unfolding of_phase writing_of reading_of row_of place_array place_column array
 returns-in_default c =
-    touch _ _ _ 6 (reading (turn_b _) _ _ _ _) _ _ _ _ (omega arith) refl c.from-stations.ensures (ap (λ (x : ℕ). 2 + 2 * x) c.from-island.ensures) c.from-next.ensures
-    c.register_offset-in_default.ensures
+    touch _ _ _ 6 (reading (turn_b _) _ _ _ _) _ _ _ _ (omega arith) refl c.from-stations.ensures
+    (ap (λ (x : ℕ). 2 + 2 * x) c.from-island.ensures) c.from-next.ensures c.register_offset-in_default.ensures

@@ -33,7 +33,8 @@ unfolding lay_register figure_bytes digits splice
 register_laid r b c d f h e ef q =
     behind 0 4 b c d (r.mark ∷ r.island ∷ 0 ∷ 0 ∷ []) (figure_bytes r.figure) e
     (q ∙ ap (λ (l : List ℕ). splice 4 l c) ef) refl
-    ∙ ap (λ (l : List ℕ). lay_register r ++ l) (drop_of_length-le b (let all : length b ≤ 8 = omega arith in all)) ∙ append-nil (lay_register r)
+    ∙ ap (λ (l : List ℕ). lay_register r ++ l) (drop_of_length-le b (let all : length b ≤ 8 = omega arith in all))
+    ∙ append-nil (lay_register r)
 
 pub length_register : (r : Register) → length (lay_register r) ≡ 8
 unfolding lay_register figure_bytes digits
@@ -52,7 +53,8 @@ record_laid r at b b1 b2 b3 b4 b5 b6 v x y k ev ex ey ek e1 e2 e3 e4 e5 e6 =
     behind at 12 b b2 b3 _ _ first (e3 ∙ ap (λ (l : List ℕ). splice (at + 12) l b2) ex) refl in
     let third : b4 ≡ splice at (head ++ figure_bytes r.proposal ++ figure_bytes r.carried ++ figure_bytes r.best) b =
     behind at 16 b b3 b4 _ _ second (e4 ∙ ap (λ (l : List ℕ). splice (at + 16) l b3) ey) refl in
-    let fourth : b5 ≡ splice at (head ++ figure_bytes r.proposal ++ figure_bytes r.carried ++ figure_bytes r.best ++ digits 2 r.steps) b =
+    let fourth : b5 ≡ splice at
+    (head ++ figure_bytes r.proposal ++ figure_bytes r.carried ++ figure_bytes r.best ++ digits 2 r.steps) b =
     behind at 20 b b4 b5 _ _ third (e5 ∙ ap (λ (l : List ℕ). splice (at + 20) l b4) ek) refl in
     behind at 22 b b5 b6 _ _ fourth e6 refl
   where

@@ -17,6 +17,7 @@ returns-in-1 c = let given = figures (search) in search (landed, larger_told, ot
 pub returns-in_default : goal.returns-in_default
 returns-in_default c =
     elim c.in_default-1.branch [
-      | in_default-via-in-1+else-station-figure w ↦ let given = figures (search) in search (landed, larger_told, same_bits_told, a_same)
+      | in_default-via-in-1+else-station-figure w ↦
+          let given = figures (search) in search (landed, larger_told, same_bits_told, a_same)
       | in_default-via-in_default-1 w ↦ let given = figures (search) in search (landed, larger_told, a_mixed)
     ]
