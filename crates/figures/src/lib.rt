@@ -13,6 +13,7 @@ ghost use Rattle.std.proofs.Common.{to_z, of_z};
 ghost use Rattle.model.specs.Bytes.{number, part};
 ghost use Rattle.model.specs.Figure.{figure, figure_bytes};
 
+// The library's casts and bytes, under contracts in the model's words: those of the crates above rest on them.
 // The number that 32 bits stand for.
 pub fn signed(bits: u32) -> i32
     ensures { result ≡ to_z w32 bits }

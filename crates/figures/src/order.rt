@@ -6,6 +6,7 @@ ghost use Rattle.model.specs.Figure.{figures, same_figure};
 ghost use Rattle.model.specs.Figure as figure;
 ghost use Rattle.model.specs.Listing as listing;
 
+// `==` under the model's word, for contracts that speak of it; with `==` alone each of their proofs needs the law of bits.
 pub fn same(x: i32, y: i32) -> bool
     ensures { result ≡ same_figure x y }
 {
