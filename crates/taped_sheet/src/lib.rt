@@ -38,15 +38,6 @@ fn may_fill(form: Result<LineForm, Refusal>, rooms: usize) -> bool
     }
 }
 
-// Bytes put over as many others.
-#[tactic(auto, using(crate::proofs::Laws::Keeping::copied))]
-fn copy_all(from: &[u8], to: &mut [u8])
-    requires { length to.old ≡ length from.now }
-    ensures { to.new ≡ from.now }
-{
-    to.copy_from_slice(from);
-}
-
 // The memory before such a line is kept.
 #[tactic(auto, using(crate::proofs::Laws::Keeping::keeping))]
 fn keep(form: Result<LineForm, Refusal>, rooms: usize, memory: &[u8], kept: &mut [u8])
@@ -54,7 +45,7 @@ fn keep(form: Result<LineForm, Refusal>, rooms: usize, memory: &[u8], kept: &mut
     ensures { Kept rooms form memory.now kept.new }
 {
     if may_fill(form, rooms) {
-        copy_all(memory, kept);
+        kept.copy_from_slice(memory);
     }
 }
 
@@ -75,8 +66,7 @@ fn try_line(
     keep(form, wanted.room, memory, kept);
     let tried = tape_read(line, form, laid, memory, out, wanted);
     if tried.taped.room == 0 {
-        copy_all(kept, memory);
-        return tried;
+        memory.copy_from_slice(kept);
     }
     tried
 }

@@ -1,5 +1,5 @@
 -- A line that takes no step: the tape stays as it is, and the memory is that of the line played.
--- Relies on the reading that a form of the code came from; the proof of `tape_line` relies on it.
+-- Relies on the reading that a form of the code came from; the proof of `tape_read` relies on it.
 use Rattle.model.proofs.Kit.{◌≡◌, refl, sym, ap, ◌∙◌, List, ℕ}
 use Rattle.std.specs.Prelude.{Ok, Err}
 use Rattle.std.specs.declared.result.Result.{Result}

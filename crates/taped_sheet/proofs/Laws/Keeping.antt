@@ -1,7 +1,7 @@
 -- The memory before a line whose tape may fill the buffer: kept, and put back where it does.
 -- Relies on what entries leave in the buffer; the proofs of a line that is tried rely on it.
-use Rattle.model.proofs.Kit.{◌≡◌, ap, ◌∙◌, Bool, false, List, ◌++◌, append-nil, ℕ, ◌-◌, ◌≤◌, length, take}
-use Rattle.model.proofs.Kit.{drop, take_all, length-drop, drop_of_length-le, arith}
+use Rattle.model.proofs.Kit.{◌≡◌, ap, ◌∙◌, Bool, false, List, ℕ, ◌-◌, ◌≤◌, length}
+use Rattle.model.proofs.Kit.{drop, length-drop, arith}
 use Rattle.std.specs.declared.result.Result.{Result}
 use Rattle.model.specs.declared.refusal.Refusal.{Refusal}
 use Rattle.sheet.specs.declared.form.LineForm.{LineForm}
@@ -11,12 +11,6 @@ use Rattle.taped_line.specs.declared.TapedLine.{TapedLine}
 use Rattle.taped_line.specs.TapedLines.{IsRead, window, line_tape, LineTaped}
 use Rattle.taped_sheet.specs.SheetParts.{MayFill, Kept, LineTried}
 use Rattle.taped_sheet.proofs.Laws.Windows.{put}
-
--- bytes copied over as many others
-pub copied : (a b c : List ℕ) → length b ≡ length a → c ≡ take (length a) a ++ drop (length a) b → c ≡ a
-copied a b c e h =
-    h ∙ (λ j. take_all (length a) a (omega arith) j ++ drop_of_length-le b {i = length a} (omega arith) j)
-    ∙ append-nil a
 
 module _ (rooms : ℕ) (f : Result LineForm Refusal) (m k : List ℕ) where
   pub kept : k ≡ m → Kept rooms f m k
