@@ -1,6 +1,7 @@
 -- A line by its number and its place on a tape, and the first one that differs on two tapes.
 -- Relies on the model's tapes; the contract of `first_difference` and of the comparison rely on it.
-use Rattle.std.specs.Prelude.{◌≡◌, true, false, List, ℕ, ◌-◌, ◌≤◌, length, take, drop}
+use Rattle.std.specs.Prelude.{◌≡◌, List, ℕ, ◌-◌, ◌≤◌, length, take, drop, Some, None}
+use Rattle.std.specs.declared.option.Option.{Option}
 use Rattle.std.proofs.Math.Option.{none, some}
 use Rattle.model.specs.Sheet.{lines_of}
 use Rattle.model.specs.Tape.{line_at, line_start, differ_from}
@@ -19,6 +20,6 @@ pub record DifferAt (a b : List ℕ) (g : Gap) : Type 0 where
   pub first : Stands a g.number g.start g.first
   pub second : Stands b g.number g.start g.second
 
-pub record GapIs (a b : List ℕ) (g : Gap) : Type 0 where
-  pub here : g.differ ≡ true → DifferAt a b g
-  pub nowhere : g.differ ≡ false → differ_from 0 (lines_of a) (lines_of b) ≡ none
+unfoldable pub GapIs : (a b : List ℕ) → Option Gap → Type 0
+GapIs a b (Some g) = DifferAt a b g
+GapIs a b None = differ_from 0 (lines_of a) (lines_of b) ≡ none

@@ -9,57 +9,54 @@ ghost use Rattle.model.specs.Tape.{culprit_part};
 use crate::checking::entries_end;
 use crate::culprit::culprit_of;
 use crate::difference::first_difference;
-use model::{Comparison, Tap};
+use model::refusal::Refusal;
+use model::{Difference, Tap};
 
 // Refusals 1 and 21, of which 21 is for any line of either tape, and then the first difference, if there is one.
-pub fn compare(sheet: &[u8], first: &[u8], second: &[u8]) -> Comparison
+pub fn compare(sheet: &[u8], first: &[u8], second: &[u8]) -> Result<Option<Difference>, Refusal>
     ensures { Compares sheet.now first.now second.now result }
 {
     if 32768 < sheet.len() {
-        return Comparison::Refused { number: 1 };
+        return Err(Refusal::SheetTooLong);
     }
-    let gap = first_difference(first, second);
+    let found = first_difference(first, second);
     if entries_end(first) < first.len() {
-        return Comparison::Refused { number: 21 };
+        return Err(Refusal::NoTape);
     }
     if entries_end(second) < second.len() {
-        return Comparison::Refused { number: 21 };
+        return Err(Refusal::NoTape);
     }
-    if !gap.differ {
-        return Comparison::Alike;
-    }
+    let Some(gap) = found else {
+        return Ok(None);
+    };
     let start = gap.start;
     let first_end = gap.first;
-    match culprit_of(sheet, gap.number, &first[start..first_end]) {
-        Tap::First => Comparison::Differ {
+    let tap = culprit_of(sheet, gap.number, &first[start..first_end]);
+    match tap {
+        Tap::First => Ok(Some(Difference {
             line: gap.number,
-            tap: Tap::First,
+            tap,
             start,
             len: first_end - start,
-        },
-        Tap::Second => Comparison::Differ {
+        })),
+        Tap::Second => Ok(Some(Difference {
             line: gap.number,
-            tap: Tap::Second,
+            tap,
             start,
             len: gap.second - start,
-        },
+        })),
     }
 }
 
-// A part of one of the two tapes.
-pub fn part_of<'a>(
-    first: &'a [u8],
-    second: &'a [u8],
-    tap: Tap,
-    start: usize,
-    len: usize,
-) -> &'a [u8]
-    requires { Fits first.now second.now tap start len }
-    ensures { PartTaken first.entry second.entry tap start len result }
+// The culprit's line on its tape.
+pub fn part_of<'a>(first: &'a [u8], second: &'a [u8], found: Difference) -> &'a [u8]
+    requires { Fits first.now second.now found }
+    ensures { PartTaken first.entry second.entry found result }
 {
-    match tap {
-        Tap::First => &first[start..start + len],
-        Tap::Second => &second[start..start + len],
+    let start = found.start;
+    match found.tap {
+        Tap::First => &first[start..start + found.len],
+        Tap::Second => &second[start..start + found.len],
     }
 }
 
@@ -67,15 +64,9 @@ pub fn part_of<'a>(
 pub fn culprit_line<'a>(sheet: &[u8], first: &'a [u8], second: &'a [u8]) -> &'a [u8]
     ensures { PartIs first.entry second.entry result (culprit_part first.now second.now (tape.compare sheet.now first.now second.now)) }
 {
-    let answer = compare(sheet, first, second);
-    match answer {
-        Comparison::Refused { number: _ } => &first[..0],
-        Comparison::Alike => &first[..0],
-        Comparison::Differ {
-            line: _,
-            tap,
-            start,
-            len,
-        } => part_of(first, second, tap, start, len),
+    match compare(sheet, first, second) {
+        Ok(Some(found)) => part_of(first, second, found),
+        Ok(None) => &first[..0],
+        Err(_) => &first[..0],
     }
 }

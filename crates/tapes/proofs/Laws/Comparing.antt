@@ -1,13 +1,16 @@
 -- The comparison at each return: refusals 1 and 21, none, and the culprit's line on the first tape or on the second.
 -- Relies on the model's comparison and on the place of a line on its tape; the proofs of `comparing` rely on it.
-use Rattle.model.proofs.Kit.{◌≡◌, refl, sym, ap, ◌∙◌, Bool, true, false, not, ◌&&◌, List, some}
+use Rattle.model.proofs.Kit.{◌≡◌, refl, sym, ap, subst, ◌∙◌, Bool, true, false, ◌&&◌, List, some}
 use Rattle.model.proofs.Kit.{ℕ, zero, suc, ◌-◌, ◌≤◌, ◌<◌, le-leb, lt-leb, length, take, drop, length-drop, arith}
 use lib.Seq.{length-take-le}
-use borrow.Author.Tests.{not-true, not-false}
 use Rattle.model.specs.declared.Tap as taps
 use Rattle.model.specs.declared.Tap.TheVariants as tap
-use Rattle.model.specs.declared.Comparison.{Comparison}
-use Rattle.model.specs.declared.Comparison.TheVariants.{Alike, Differ, Refused}
+use Rattle.model.specs.declared.refusal.Refusal as refusals
+use Rattle.model.specs.declared.refusal.Refusal.TheVariants.{SheetTooLong, NoTape}
+use Rattle.model.specs.declared.Difference.{Difference}
+use Rattle.std.specs.Prelude.{Ok, Err, Some, None}
+use Rattle.std.specs.declared.option.Option.{Option}
+use Rattle.std.specs.declared.result.Result.{Result}
 use Rattle.model.specs.Sheet.{lines_of}
 use Rattle.model.specs.Tape.{Tap, first, second, differs, TapePart, empty_part, part_of}
 use Rattle.model.specs.Tape.{own_lines, line_at, line_start, culprit, taped, compare, culprit_part}
@@ -26,7 +29,7 @@ counted ls zero l e = never l (sym (no_zeroth ls) ∙ e)
 counted ls (suc k) l e = omega arith
 
 -- an answer with the part that stands on a tape from one place up to another
-located : (s a b : List ℕ) (r : Comparison) (k : ℕ) (t : Tap) (tape : List ℕ) (start end : ℕ) → Stands tape k start end
+located : (s a b : List ℕ) (r : Result (Option Difference) refusals.Refusal) (k : ℕ) (t : Tap) (tape : List ℕ) (start end : ℕ) → Stands tape k start end
     → comparison_told r ≡ compare s a b → culprit_part a b (compare s a b) ≡ part_of k t tape
     → start_told r ≡ start → length_told r ≡ end - start → Inside a b r → Compares s a b r
 unfolding part_of
@@ -47,7 +50,7 @@ located s a b r k t tape start end stands e part_is starts len inside =
 
 module _ (s a b : List ℕ) where
   -- an answer without a part
-  empty_handed : (r : Comparison) → comparison_told r ≡ compare s a b
+  empty_handed : (r : Result (Option Difference) refusals.Refusal) → comparison_told r ≡ compare s a b
       → culprit_part a b (comparison_told r) ≡ empty_part → start_told r ≡ 0 → length_told r ≡ 0 → Inside a b r
       → Compares s a b r
   unfolding empty_part
@@ -60,33 +63,32 @@ module _ (s a b : List ℕ) where
         inside = inside;
       }
 
-  pub too_long : 32768 < length s → Compares s a b (Refused 1)
+  pub too_long : 32768 < length s → Compares s a b (Err SheetTooLong)
   unfolding compare comparison_told start_told length_told culprit_part Inside
-  too_long h = empty_handed (Refused 1) (rw (lt-leb (length s) 32768 h)) refl refl refl tt
+  too_long h = empty_handed (Err SheetTooLong) (rw (lt-leb (length s) 32768 h)) refl refl refl tt
 
   module _ (short : length s ≤ 32768) where
-    untaped : taped (lines_of a) && taped (lines_of b) ≡ false → Compares s a b (Refused 21)
+    untaped : taped (lines_of a) && taped (lines_of b) ≡ false → Compares s a b (Err NoTape)
     unfolding compare comparison_told start_told length_told culprit_part Inside
-    untaped e = empty_handed (Refused 21) (rw (le-leb (length s) 32768 short, e)) refl refl refl tt
+    untaped e = empty_handed (Err NoTape) (rw (le-leb (length s) 32768 short, e)) refl refl refl tt
 
-    pub first_untaped : (p : ℕ) → Tested a p → p < length a → Compares s a b (Refused 21)
+    pub first_untaped : (p : ℕ) → Tested a p → p < length a → Compares s a b (Err NoTape)
     first_untaped p tested h = untaped (ap (λ (t : Bool). t && taped (lines_of b)) (tested.broken h))
 
     module _ (p : ℕ) (tested-first : Tested a p) (whole-first : length a ≤ p) where
-      pub second_untaped : (q : ℕ) → Tested b q → q < length b → Compares s a b (Refused 21)
+      pub second_untaped : (q : ℕ) → Tested b q → q < length b → Compares s a b (Err NoTape)
       second_untaped q tested h = untaped (λ j. tested-first.whole whole-first j && tested.broken h j)
 
       module _ (q : ℕ) (tested-second : Tested b q) (whole-second : length b ≤ q) where
         both : taped (lines_of a) && taped (lines_of b) ≡ true
         both = (λ j. tested-first.whole whole-first j && tested-second.whole whole-second j)
 
-        pub never_differ : (g : Gap) → GapIs a b g → not g.differ ≡ true → Compares s a b Alike
-        unfolding compare comparison_told start_told length_told culprit_part Inside
-        never_differ g gap_is h =
-            empty_handed Alike
-            (rw (le-leb (length s) 32768 short, both, gap_is.nowhere (not-true g.differ h))) refl refl refl tt
+        pub never_differ : (found : Option Gap) → GapIs a b found → found ≡ None → Compares s a b (Ok None)
+        unfolding compare comparison_told start_told length_told culprit_part Inside GapIs
+        never_differ found is e =
+            empty_handed (Ok None) (rw (le-leb (length s) 32768 short, both, subst (GapIs a b) e is)) refl refl refl tt
 
-module _ (a b : List ℕ) (g : Gap) (gap_is : GapIs a b g) (differ : not g.differ ≡ false) where
+module _ (a b : List ℕ) (found : Option Gap) (is : GapIs a b found) (g : Gap) (at : found ≡ Some g) where
   abbrev k : ℕ
   k = g.number
 
@@ -100,7 +102,8 @@ module _ (a b : List ℕ) (g : Gap) (gap_is : GapIs a b g) (differ : not g.diffe
   f = g.second
 
   gap : DifferAt a b g
-  gap = gap_is.here (not-false g.differ differ)
+  unfolding GapIs
+  gap = subst (GapIs a b) at is
 
   first_stands : Stands a k start e
   first_stands = gap.first
@@ -137,16 +140,20 @@ module _ (a b : List ℕ) (g : Gap) (gap_is : GapIs a b g) (differ : not g.diffe
           first_stands.line,
         ) (ap (differs k) (sym says))
 
-    pub culprit_first : t ≡ tap.First → Compares s a b (Differ k tap.First start (e - start))
+    -- the answer with the line that ends there
+    abbrev pub until : ℕ → Result (Option Difference) refusals.Refusal
+    until end = Ok (Some (record { line = k; tap = t; start = start; len = end - start }))
+
+    pub culprit_first : t ≡ tap.First → Compares s a b (until e)
     unfolding comparison_told start_told length_told culprit_part Inside Fits tape_by tap_told
     culprit_first named =
-        let is : compare s a b ≡ differs k first = answers ∙ ap (λ (u : taps.Tap). differs k (tap_told u)) named in
-        located s a b (Differ k tap.First start (e - start)) k first a start e first_stands (sym is)
-        (ap (culprit_part a b) is) refl refl (omega (arith, first_order, first_inside))
+        let says_so : compare s a b ≡ differs k first = answers ∙ ap (λ (u : taps.Tap). differs k (tap_told u)) named in
+        located s a b (until e) k first a start e first_stands (sym answers)
+        (ap (culprit_part a b) says_so) refl refl (rw named (omega (arith, first_order, first_inside)))
 
-    pub culprit_second : t ≡ tap.Second → Compares s a b (Differ k tap.Second start (f - start))
+    pub culprit_second : t ≡ tap.Second → Compares s a b (until f)
     unfolding comparison_told start_told length_told culprit_part Inside Fits tape_by tap_told
     culprit_second named =
-        let is : compare s a b ≡ differs k second = answers ∙ ap (λ (u : taps.Tap). differs k (tap_told u)) named in
-        located s a b (Differ k tap.Second start (f - start)) k second b start f second_stands (sym is)
-        (ap (culprit_part a b) is) refl refl (omega (arith, second_order, second_inside))
+        let says_so : compare s a b ≡ differs k second = answers ∙ ap (λ (u : taps.Tap). differs k (tap_told u)) named in
+        located s a b (until f) k second b start f second_stands (sym answers)
+        (ap (culprit_part a b) says_so) refl refl (rw named (omega (arith, second_order, second_inside)))

@@ -4,13 +4,12 @@ use Rattle.model.proofs.Kit.{◌≡◌, refl, sym, ap, subst, ◌∙◌, Bool, t
 use Rattle.model.proofs.Kit.{ℕ, suc, ◌+◌, ◌-◌, ◌≤◌, ◌<◌, length, take, drop, length-drop, zero-add, arith}
 use lib.Seq.{length-take-le}
 use borrow.Author.Tests.{not-true, not-false}
+use Rattle.std.specs.Prelude.{Some, None}
 use Rattle.model.specs.Sheet.{lines_of}
 use Rattle.model.specs.Tape.{line_at, line_start, differ_from}
-use Rattle.model.proofs.Basics.Tests.{clash}
 use Rattle.model.proofs.Basics.Ended.{no_parts}
 use Rattle.model.proofs.Sheet.SameTexts.{same_says}
 use Rattle.lines.specs.Ends.{LineEnd}
-use Rattle.tapes.specs.declared.difference.Gap.{Gap}
 use Rattle.tapes.specs.Differences.{Stands, GapIs}
 
 -- ---- one tape
@@ -72,27 +71,21 @@ pub alike_begun : (a b : List ℕ) → Alike a b 0 0
 alike_begun a b = record { rest = refl; first = none_before a; second = none_before b; few = omega arith }
 
 module _ (a b : List ℕ) (number at : ℕ) (so_far : Alike a b number at) where
-  module _ (g : Gap) (says-no : g.differ ≡ false) where
-    is_nowhere : differ_from 0 (lines_of a) (lines_of b) ≡ none → GapIs a b g
-    is_nowhere e = record { here = λ yes. clash (sym yes ∙ says-no); nowhere = λ no. e }
+  -- the first tape ends
+  pub first_ended : length a ≤ at → GapIs a b None
+  unfolding differ_from GapIs
+  first_ended h =
+      so_far.rest ∙ ap (λ (ls : List (List ℕ)). differ_from number ls (lines_of (drop at b))) (no_parts 10 a at h)
 
-    -- the first tape ends
-    pub first_ended : length a ≤ at → GapIs a b g
-    unfolding differ_from
-    first_ended h =
-        is_nowhere
-        (so_far.rest ∙ ap (λ (ls : List (List ℕ)). differ_from number ls (lines_of (drop at b))) (no_parts 10 a at h))
-
-    -- the second one does
-    pub second_ended : length b ≤ at → GapIs a b g
-    unfolding differ_from
-    second_ended h =
-        is_nowhere
-        (so_far.rest ∙ ap (differ_from number (lines_of (drop at a))) (no_parts 10 b at h) ∙ by (lines_of (drop at a)))
-      where
-        by : (ls : List (List ℕ)) → differ_from number ls [] ≡ none
-        by [] = refl
-        by (l ∷ ls) = refl
+  -- the second one does
+  pub second_ended : length b ≤ at → GapIs a b None
+  unfolding differ_from GapIs
+  second_ended h =
+      so_far.rest ∙ ap (differ_from number (lines_of (drop at a))) (no_parts 10 b at h) ∙ by (lines_of (drop at a))
+    where
+      by : (ls : List (List ℕ)) → differ_from number ls [] ≡ none
+      by [] = refl
+      by (l ∷ ls) = refl
 
   module _ (e f : ℕ) (ends-a : LineEnd a at e) (ends-b : LineEnd b at f) (in_a_lem : at < length a) (in_b : at < length b)
       (r : Bool)
@@ -107,14 +100,12 @@ module _ (a b : List ℕ) (number at : ℕ) (so_far : Alike a b number at) where
         (some (suc number))) (same_says _ _ r r says refl)
 
     pub differ_here : not r ≡ true
-        → GapIs a b (record { differ = true; number = number + 1; start = at; first = e; second = f })
+        → GapIs a b (Some (record { number = number + 1; start = at; first = e; second = f }))
+    unfolding GapIs
     differ_here q = record {
-      here = λ yes. record {
-        number = both ∙ rw (not-true r q) (ap some (omega arith));
-        first = stands a number at e so_far.first ends-a in_a_lem;
-        second = stands b number at f so_far.second ends-b in_b;
-      };
-      nowhere = λ no. clash no;
+      number = both ∙ rw (not-true r q) (ap some (omega arith));
+      first = stands a number at e so_far.first ends-a in_a_lem;
+      second = stands b number at f so_far.second ends-b in_b;
     }
 
     pub alike_more : not r ≡ false → Alike a b (number + 1) (e + 1)

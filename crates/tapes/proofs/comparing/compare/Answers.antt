@@ -1,6 +1,5 @@
 -- `compare` meets its contract: refusals 1 and 21, no difference, and the culprit's line on either tape.
 -- Relies on the laws of the comparison.
-use Rattle.std.proofs.Common.{rules}
 use Rattle.tapes.proofs.Laws.Comparing.{too_long, first_untaped, second_untaped, never_differ, first_order}
 use Rattle.tapes.proofs.Laws.Comparing.{first_inside, second_order, some_number, culprit_first, culprit_second}
 use Rattle.tapes.proofs.comparing.compare.Goals as goal
@@ -14,8 +13,8 @@ returns-then-entries_end-first c = search first_untaped
 pub returns-then-entries_end-second : goal.returns-then-entries_end-second
 returns-then-entries_end-second c = search second_untaped
 
-pub returns-then-not-gap : goal.returns-then-not-gap
-returns-then-not-gap c = search never_differ
+pub returns-in_default : goal.returns-in_default
+returns-in_default c = search never_differ
 
 pub slice_bounds-culprit_of-count : goal.slice_bounds-culprit_of-count
 slice_bounds-culprit_of-count c = search first_order
@@ -24,10 +23,10 @@ pub slice_bounds-culprit_of-start : goal.slice_bounds-culprit_of-start
 slice_bounds-culprit_of-start c = search first_order
 
 pub slice_bounds-culprit_of-end : goal.slice_bounds-culprit_of-end
-slice_bounds-culprit_of-end c = first_inside _ _ _ c.first_difference-gap.ensures (search rules)
+slice_bounds-culprit_of-end c = search first_inside
 
-pub culprit_of-requires : goal.culprit_of-requires
-culprit_of-requires c = search some_number
+pub culprit_of-tap-requires : goal.culprit_of-tap-requires
+culprit_of-tap-requires c = search some_number
 
 pub overflow_sub-result : goal.overflow_sub-result
 overflow_sub-result c = search first_order
