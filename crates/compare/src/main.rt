@@ -7,7 +7,8 @@ ghost use Rattle.std.specs.Prelude.{◌≤◌, length, IfOk};
 
 use answer_writer::refused_line;
 use input::read_all;
-use model::{Comparison, Tap};
+use model::Tap;
+use model::refusal::Refusal;
 use std::env::{Env, FillError};
 use std::fmt::InlineText;
 use std::rt::Files;
@@ -66,11 +67,8 @@ fn read_file<R: Env + Files, E: Print>(
     read
 }
 
-fn print_refusal<P: Print>(rt: &P, number: u8) -> io::Result<()> {
-    let line = refused_line(number);
-    let bytes = line.bytes;
-    let len = line.len;
-    rt.write_all(&bytes[..len])?;
+fn print_refusal<P: Print>(rt: &P, refusal: Refusal) -> io::Result<()> {
+    rt.write_all(refused_line(refusal).as_slice())?;
     rt.write_all(b"\n")
 }
 
@@ -85,16 +83,12 @@ fn print_difference<P: Print>(rt: &P, line: usize, tap: Tap, culprit: &[u8]) -> 
 }
 
 fn print_answer<P: Print>(rt: &P, sheet: &[u8], first: &[u8], second: &[u8]) -> io::Result<()> {
-    let answer = compare(sheet, first, second);
-    match answer {
-        Comparison::Refused { number } => print_refusal(rt, number),
-        Comparison::Alike => rt.write_all(b"none\n"),
-        Comparison::Differ {
-            line,
-            tap,
-            start,
-            len,
-        } => print_difference(rt, line, tap, part_of(first, second, tap, start, len)),
+    match compare(sheet, first, second) {
+        Err(refusal) => print_refusal(rt, refusal),
+        Ok(None) => rt.write_all(b"none\n"),
+        Ok(Some(found)) => {
+            print_difference(rt, found.line, found.tap, part_of(first, second, found))
+        }
     }
 }
 

@@ -16,9 +16,7 @@ fn main(rt: HostRuntime) {
     let mut memory = [0u8; 16904];
     if 32768 < len {
         let answer = next_answer(&sheet[..len], 0, 0, &mut memory);
-        let bytes = answer.line.bytes;
-        let count = answer.line.len;
-        let _ = rt.write_all(&bytes[..count]);
+        let _ = rt.write_all(answer.line.as_slice());
         return;
     }
     let mut kept = [0u8; 16904];
