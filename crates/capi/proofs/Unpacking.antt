@@ -2,8 +2,10 @@
 -- is handed back answers with the number for a buffer that is too short.
 -- Relies on the packing's definitions; nothing relies on it but the reader of an answer.
 use Rattle.model.proofs.Kit.{◌≡◌, List, ℕ, suc, ◌+◌, ◌≤◌, ◌<◌, ◌/◌, ◌%◌, ◌*◌, length, arith}
-use Rattle.model.specs.declared.RoundsVerdict.{RoundsVerdict}
-use Rattle.model.specs.declared.RoundsVerdict.TheVariants as byRound
+use Rattle.std.specs.Prelude.{Ok, Err}
+use Rattle.std.specs.declared.result.Result.{Result}
+use Rattle.model.specs.declared.refusal.Refusal.{Refusal}
+use Rattle.model.specs.declared.RoundsPlayed.{RoundsPlayed}
 use Rattle.model.specs.Calls.{ran}
 use Rattle.model.specs.Rounds.{played}
 use Rattle.model.specs.Show.{show}
@@ -12,15 +14,15 @@ use Rattle.player.specs.declared.line.Played.{Played}
 use Rattle.player.specs.Played.{Plays}
 use Rattle.packing.specs.Packing.{packed_at, packed, packed_standing, pack_verdict, pack_run, pack_rounds}
 use Rattle.packing.specs.Packing.{pack_word, FewRounds}
-use Rattle.model.specs.Told.{rounds_told}
+use Rattle.model.specs.Told.{number, rounds_told}
 use Rattle.capi.specs.LentLines.{pack_show, pack_played}
 use Rattle.capi.proofs.Laws.Listed.{listed, listed_high}
 use Rattle.capi.proofs.Laws.LentLines.{shown_fits, line_laid}
 
 -- what the types of the code's answer say: the stations decided and a refusal's number are bytes
-unfoldable pub Bytes : RoundsVerdict → Type 0
-Bytes (byRound.Played r d) = d < 256
-Bytes (byRound.Refused k) = k < 256
+unfoldable pub Bytes : Result RoundsPlayed Refusal → Type 0
+Bytes (Ok r) = r.decided < 256
+Bytes (Err k) = number k < 256
 
 -- a step's five parts; the code's kind, its island or flag, and what it met are bytes
 pub step_parts : (number kind field figure met : ℕ) → number < 256 → kind < 256 → field < 256 → met < 256
@@ -51,11 +53,11 @@ unfolding pack_rounds
 rounds_parts r d h = omega arith
 
 -- and no answer of a call that was made is all ones
-pub rounds_never_all_ones : (w : RoundsVerdict) → FewRounds w → Bytes w
+pub rounds_never_all_ones : (w : Result RoundsPlayed Refusal) → FewRounds w → Bytes w
     → pack_rounds (rounds_told w) < 18446744073709551615
 unfolding pack_rounds FewRounds Bytes rounds_told
-rounds_never_all_ones (byRound.Played r d) f b = omega arith
-rounds_never_all_ones (byRound.Refused k) f b = omega arith
+rounds_never_all_ones (Ok r) f b = omega arith
+rounds_never_all_ones (Err k) f b = omega arith
 
 -- ---- a shown line's answer
 

@@ -7,7 +7,7 @@ ghost use Rattle.model.specs.Sheet.{play_line};
 ghost use Rattle.capi.specs.LentLines.{in_room, playable, handed, shown_in, pack_show, pack_played, filled};
 ghost use Rattle.packing.specs.Packing.{pack_word};
 
-use packing::{verdict_number, word_number};
+use packing::word_number;
 
 // The numbers for a call that cannot be made: no other case gives them.
 const NO_ROOM: u32 = 0xFFFFFFFF;
@@ -21,16 +21,14 @@ pub extern "C" fn lufanelis_show(board: &[u8], line: &mut [u8]) -> u32
     if line.len() < 512 {
         return NO_ROOM;
     }
-    let shown = calls::show(board);
-    let verdict = shown.verdict;
-    let number = verdict_number(verdict);
-    // No refusal has number 0, and beside one the lent line stays as it was.
-    if 0 < number {
-        return number as u32;
+    match calls::show(board) {
+        Ok(shown) => {
+            line[..512].copy_from_slice(&shown.bytes());
+            shown.len() as u32 * 65536
+        }
+        // The lent line stays as it was.
+        Err(refusal) => u32::from(u8::from(refusal)),
     }
-    let bytes = shown.bytes;
-    line[..512].copy_from_slice(&bytes);
-    shown.len as u32 * 65536
 }
 
 #[unsafe(no_mangle)]
@@ -59,7 +57,6 @@ pub extern "C" fn lufanelis_play_line(
         return NOT_PLAYED;
     }
     let played = player::line::play_line(line, laid, memory);
-    let bytes = played.line.bytes;
-    printed[..512].copy_from_slice(&bytes);
-    played.line.len as u64 + played.laid as u64 * 65536
+    printed[..512].copy_from_slice(&played.line.bytes());
+    played.line.len() as u64 + played.laid as u64 * 65536
 }

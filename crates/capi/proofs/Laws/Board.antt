@@ -2,9 +2,11 @@
 -- Relies on the packing's definitions and on the model's runs; the proofs of `board` rely on it.
 use Rattle.model.proofs.Kit.{◌≡◌, refl, sym, ap, ◌∙◌, List, none, some, ℕ, ◌+◌, ◌-◌, ◌≤◌, leb, leb→le, length}
 use Rattle.model.proofs.Kit.{arith}
-use Rattle.model.specs.declared.Verdict.{Verdict}
-use Rattle.model.specs.declared.RunVerdict.{RunVerdict}
-use Rattle.model.specs.declared.RunVerdict.TheVariants as runs
+use Rattle.std.specs.Prelude.{Ok, Err}
+use Rattle.std.specs.declared.result.Result.{Result}
+use Rattle.model.specs.declared.refusal.Refusal as refusals
+use Rattle.model.specs.declared.Ran.{Ran}
+use Rattle.model.specs.declared.Effort.{Effort}
 use Rattle.model.specs.Figure.{Figure}
 use Rattle.model.specs.Calls.{After, Refusal, RunAnswer, ran, not_run, unless, board_refusal, ran_from, step, run, propose}
 use Rattle.model.specs.Calls.{station_refusal, station_at, steps_taken}
@@ -13,8 +15,6 @@ use Rattle.model.proofs.Calls.Refusals.{call_case, unless_none, board_of_lem, st
 use Rattle.model.specs.Runs as ofRuns
 use Rattle.model.specs.Runs.{taken, passed}
 use Rattle.model.proofs.Calls.Runs.{ran_is, ran_both}
-use Rattle.model.specs.declared.StandingAnswer.{StandingAnswer}
-use Rattle.model.specs.declared.StandingAnswer.TheVariants as answers
 use Rattle.model.specs.Standing as model
 use Rattle.model.specs.Standing.{standing_of, stands, not_told, standing}
 use Rattle.model.proofs.Calls.StepsTaken.{steps_few}
@@ -23,12 +23,12 @@ use Rattle.packing.specs.Packing.{pack_verdict, pack_run, Few, FewSteps}
 -- ---- verdicts
 
 -- the call's verdict, packed, beside the bytes that it left
-pub packs : (r : ℕ) (v : Verdict) (a : Refusal) (d e : List ℕ) → r ≡ pack_verdict (verdict v) → (verdict v ≡ a) × (d ≡ e)
+pub packs : (r : ℕ) (v : Result (Unit {0}) refusals.Refusal) (a : Refusal) (d e : List ℕ) → r ≡ pack_verdict (verdict v) → (verdict v ≡ a) × (d ≡ e)
     → (r ≡ pack_verdict a) × (d ≡ e)
 packs r v a d e h answered = (h ∙ ap pack_verdict answered.0, answered.1)
 
 -- the figure as it was passed on
-pub proposes : (i : ℕ) (v z : Figure) (b : List ℕ) (r : ℕ) (w : Verdict) (d : List ℕ) → z ≡ v
+pub proposes : (i : ℕ) (v z : Figure) (b : List ℕ) (r : ℕ) (w : Result (Unit {0}) refusals.Refusal) (d : List ℕ) → z ≡ v
     → r ≡ pack_verdict (verdict w)
     → (verdict w ≡ (propose i z b).answer) × (d ≡ (propose i z b).bytes)
     → (r ≡ pack_verdict (propose i v b).answer) × (d ≡ (propose i v b).bytes)
@@ -55,13 +55,13 @@ told_few i b s k e = go (board_refusal b (station_refusal i b none)) refl e
         omega arith
     go (some j) q f = absurd (let z : ◌≡◌ {A = ℕ} 0 1 = cc in omega arith)
 
-pub standing_few : (i : ℕ) (b : List ℕ) (w : StandingAnswer) → standing_answered w ≡ standing i b → FewSteps w
+pub standing_few : (i : ℕ) (b : List ℕ) (w : Result Effort refusals.Refusal) → standing_answered w ≡ standing i b → FewSteps w
 standing_few i b w e = go w refl
   where
-    go : (v : StandingAnswer) → w ≡ v → FewSteps v
-    go (answers.Stands s k) q = unfold FewSteps in
-        told_few i b (standing_told s) k (sym e ∙ ap standing_answered q ∙ (unfold standing_answered in refl))
-    go (answers.Refused k) q = unfold FewSteps in tt
+    go : (v : Result Effort refusals.Refusal) → w ≡ v → FewSteps v
+    go (Ok s) q = unfold FewSteps in
+        told_few i b (standing_told s.standing) s.steps (sym e ∙ ap standing_answered q ∙ (unfold standing_answered in refl))
+    go (Err k) q = unfold FewSteps in tt
 
 -- ---- runs
 
@@ -86,15 +86,15 @@ few is b s t =
           leb→le (length is) 65536 (unless_none (leb (length is) 65536) 6 (board_refusal b none) e).0,
         )
 
-module _ (is b : List ℕ) (w : RunVerdict) (d : List ℕ)
+module _ (is b : List ℕ) (w : Result Ran refusals.Refusal) (d : List ℕ)
     (answered : (run_told w ≡ (run is b).answer) × (d ≡ (run is b).bytes)) where
   -- the counts fit their bits
   pub run_few : Few w
   run_few = go w refl
     where
-      go : (v : RunVerdict) → w ≡ v → Few v
-      go (runs.Ran s t) e = unfold Few in few is b s t (sym answered.0 ∙ ap run_told e ∙ (unfold run_told in refl))
-      go (runs.Refused k) e = unfold Few in tt
+      go : (v : Result Ran refusals.Refusal) → w ≡ v → Few v
+      go (Ok r) e = unfold Few in few is b r.taken r.passed (sym answered.0 ∙ ap run_told e ∙ (unfold run_told in refl))
+      go (Err k) e = unfold Few in tt
 
   pub run_packed : (r : ℕ) → r ≡ pack_run (run_told w) → (r ≡ pack_run (run is b).answer) × (d ≡ (run is b).bytes)
   run_packed r h = (h ∙ ap pack_run answered.0, answered.1)

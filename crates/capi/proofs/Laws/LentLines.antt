@@ -2,14 +2,16 @@
 -- Relies on the model's lines and forms; the proofs of `lent_lines` rely on it.
 use Rattle.model.proofs.Kit.{◌≡◌, refl, sym, ap, subst, ◌∙◌, Bool, cond, ◌&&◌, inl, inr, List, [], ◌++◌, none, some}
 use Rattle.model.proofs.Kit.{Option, ℕ, ◌+◌, ◌≤◌, ◌<◌, ◌*◌, le-leb, lt-leb, eqb, leb, leb→le, length, take, drop}
-use Rattle.model.proofs.Kit.{length-replicate, length-append, w32, w64, Fits, mul-le-mul, arith}
+use Rattle.model.proofs.Kit.{◌-◌, replicate, length-replicate, length-append, w64, Fits, mul-le-mul, arith}
 use lib.Seq.{length-take-le}
-use Rattle.model.specs.declared.ShownLine.{ShownLine}
+use Rattle.std.specs.Prelude.{Ok, Err}
+use Rattle.std.specs.declared.result.Result.{Result}
+use Rattle.model.specs.declared.refusal.Refusal as refusals
 use Rattle.model.specs.Layout.{board_length}
 use Rattle.model.specs.Calls as calls
 use Rattle.model.specs.Calls.{After, Refusal, unless, board_refusal}
 use Rattle.model.specs.Show.{text, text_from, shown_line, shown_as, Shown, show}
-use Rattle.model.specs.Told.{verdict, shown_told}
+use Rattle.model.specs.Told.{number, shown_told}
 use Rattle.model.specs.Forms.{Form, WordRow, board_row, propose_row, steps_row, show_row, rounds_row, word_rows, row_in}
 use Rattle.model.specs.Forms.{first_word, form_word, Reading, reads, unread, read_line}
 use Rattle.model.specs.Sheet as model
@@ -25,7 +27,6 @@ use Rattle.player.specs.declared.line.Played.{Played}
 use Rattle.player.specs.Played.{Plays}
 use Rattle.packing.specs.Packing.{pack_verdict, pack_word}
 use Rattle.capi.specs.LentLines.{handed, shown_in, filled, in_room, playable, pack_show, pack_played}
-use Rattle.capi.proofs.Laws.Listed.{Listed, listed}
 
 -- ---- words
 
@@ -61,8 +62,10 @@ unfolding handed
 copied l d q e = ap (λ (x : List ℕ). x ++ drop 512 d) e
 
 -- the front that they are copied to is as long
-front : (l d : List ℕ) → 512 ≤ length d → length l ≡ 512 → length (take 512 d) ≡ length l
-front l d h q = length-take-le 512 d h ∙ sym q
+pub front : (l d q : List ℕ) → 512 ≤ length d → length l ≤ 512 → q ≡ l ++ replicate (512 - length l) 0
+    → length (take 512 d) ≡ length q
+front l d q h small e =
+    length-take-le 512 d h ∙ sym (ap length e ∙ simp (length-append, length-replicate) (omega (arith, small)))
 
 module _ {A : Type 0} (d : List ℕ) (given other : A) where
   no_room : length d < 512 → other ≡ in_room d given other
@@ -111,69 +114,31 @@ Shows b d r e = (r ≡ in_room d (pack_show (show b)) 4294967295) × (e ≡ in_r
 pub show_short : (b d : List ℕ) → length d < 512 → Shows b d 4294967295 d
 show_short b d h = (no_room d _ _ h, no_room d _ _ h)
 
--- beside a refusal the number alone, and the buffer as it was
-module _ (s : Shown) (d : List ℕ) where
-  beside : (r : Refusal) → s.refusal ≡ r → 0 < pack_verdict r → d ≡ shown_in s d
-  unfolding shown_in pack_verdict
-  beside none e h = absurd (omega arith)
-  beside (some k) e h = rw e
+module _ (b d : List ℕ) (h : 512 ≤ length d) (r : Result (List ℕ) refusals.Refusal) (told : shown_told r ≡ show b) where
+  -- beside a refusal the number alone, and the buffer as it was
+  pub show_turned : (k : refusals.Refusal) → r ≡ Err k → (n : ℕ) → n ≡ number k → Shows b d n d
+  unfolding shown_told shown_as pack_show pack_verdict shown_in
+  show_turned k e n is =
+      let q : show b ≡ shown_as (some (number k)) [] = sym told ∙ ap shown_told e in (
+        is ∙ sym (ap pack_show q ∙ omega arith) ∙ room d _ _ h,
+        sym (ap (λ (s : Shown). shown_in s d) q) ∙ room d _ _ h,
+      )
 
-  fills : (r : Refusal) → s.refusal ≡ r → Listed r → pack_verdict r ≤ 0 → handed s.line d ≡ shown_in s d
-  unfolding shown_in pack_verdict Listed
-  fills none e g h = rw e
-  fills (some k) e g h = absurd (omega (arith, g.0))
+  pub shown_small : (l : List ℕ) → r ≡ Ok l → length l ≤ 512
+  unfolding shown_told shown_as
+  shown_small l e =
+      let s : show b ≡ shown_as none l = sym told ∙ ap shown_told e in
+      subst (λ (x : Shown). x.len ≤ 512) s (shown_fits b).1
 
-no_line : (r : Refusal) (l : List ℕ) → 0 < pack_verdict (shown_as r l).refusal → (shown_as r l).len ≡ 0
-unfolding shown_as pack_verdict
-no_line none l h = absurd (omega arith)
-no_line (some k) l h = refl
-
-module _ (b : List ℕ) (s : ShownLine) (told : shown_told s ≡ show b) where
-  its_bytes : s.bytes ≡ (show b).line
-  unfolding shown_told
-  its_bytes = ap (λ (q : Shown). q.line) told
-
-  its_verdict : verdict s.verdict ≡ (show b).refusal
-  unfolding shown_told
-  its_verdict = ap (λ (q : Shown). q.refusal) told
-
-  its_len : s.len ≡ (show b).len
-  unfolding shown_told
-  its_len = ap (λ (q : Shown). q.len) told
-
-  its_length : length s.bytes ≡ 512
-  its_length = ap length its_bytes ∙ (shown_fits b).0
-
-  len_small : s.len ≤ 512
-  len_small = subst (λ (k : ℕ). k ≤ 512) (sym its_len) (shown_fits b).1
-
-  pub len_fits : Fits w32 s.len
-  len_fits = record { fits = omega (arith, len_small) }
-
-  pub len_packs : Fits w32 (s.len * 65536)
-  len_packs = record { fits = omega (arith, len_small) }
-
-  module _ (d : List ℕ) (h : 512 ≤ length d) where
-    pub line_fits : length (take 512 d) ≡ length s.bytes
-    line_fits = front s.bytes d h its_length
-
-    pub show_turned : (k : ℕ) → k ≡ pack_verdict (verdict s.verdict) → 0 < k → Shows b d k d
-    unfolding pack_show show
-    show_turned k p l =
-        let q : 0 < pack_verdict (show b).refusal = omega (arith, p, ap pack_verdict its_verdict) in (
-          omega (arith, p, ap pack_verdict its_verdict, no_line _ (shown_line b) q) ∙ room d _ _ h,
-          beside (show b) d _ refl q ∙ room d _ _ h,
-        )
-
-    pub show_given : (k : ℕ) (q : List ℕ) → k ≡ pack_verdict (verdict s.verdict) → k ≤ 0 → q ≡ s.bytes
-        → Shows b d (s.len * 65536) (q ++ drop 512 d)
-    unfolding pack_show
-    show_given k q p l c =
-        let z : pack_verdict (show b).refusal ≤ 0 = omega (arith, p, ap pack_verdict its_verdict) in (
-          omega (arith, z, its_len) ∙ room d _ _ h,
-          copied s.bytes d q c ∙ ap (λ (x : List ℕ). handed x d) its_bytes
-              ∙ fills (show b) d _ refl (listed b) z ∙ room d _ _ h,
-        )
+  -- the line with its zeros, and its length
+  pub show_given : (l : List ℕ) → r ≡ Ok l → (n : ℕ) → n ≡ length l → (q : List ℕ) → q ≡ l ++ replicate (512 - length l) 0
+      → Shows b d (n * 65536) (q ++ drop 512 d)
+  unfolding shown_told shown_as pack_show pack_verdict shown_in
+  show_given l e n is q c =
+      let s : show b ≡ shown_as none l = sym told ∙ ap shown_told e in (
+        omega (arith, is) ∙ sym (ap pack_show s) ∙ room d _ _ h,
+        copied (l ++ replicate (512 - length l) 0) d q c ∙ sym (ap (λ (x : Shown). shown_in x d) s) ∙ room d _ _ h,
+      )
 
 -- ---- playing
 
@@ -216,16 +181,8 @@ module _ (laid : ℕ) (m : List ℕ) (h : laid ≤ 4294967295) where
   line_laid l = reading_laid (read_line l)
 
 module _ (l m : List ℕ) (laid : ℕ) (r : Played) (e : List ℕ) (plays : Plays (play_line laid m l) r e) where
-  its_line : r.line.bytes ≡ filled (play_line laid m l).printed
-  unfolding filled
-  its_line = plays.line.bytes
-
-  line_length : length r.line.bytes ≡ 512
-  unfolding filled
-  line_length = ap length its_line ∙ simp (length-append, length-replicate) (omega (arith, plays.short))
-
-  pub printed_fits : (d : List ℕ) → 512 ≤ length d → length (take 512 d) ≡ length r.line.bytes
-  printed_fits d h = front r.line.bytes d h line_length
+  pub line_small : length r.line ≤ 512
+  line_small = omega (arith, ap length plays.line, plays.short)
 
   laid_small : laid ≤ 4294967295 → r.laid ≤ 4294967295
   laid_small few = subst (λ (k : ℕ). k ≤ 4294967295) (sym plays.laid) (line_laid laid m few l)
@@ -233,8 +190,8 @@ module _ (l m : List ℕ) (laid : ℕ) (r : Played) (e : List ℕ) (plays : Play
   pub laid_packs : laid ≤ 4294967295 → Fits w64 (r.laid * 65536)
   laid_packs few = record { fits = omega (arith, laid_small few) }
 
-  pub played_packs : laid ≤ 4294967295 → Fits w64 (r.line.len + r.laid * 65536)
-  played_packs few = record { fits = omega (arith, laid_small few, plays.line.len, plays.short) }
+  pub played_packs : laid ≤ 4294967295 → (n : ℕ) → n ≤ 512 → Fits w64 (n + r.laid * 65536)
+  played_packs few n small = record { fits = omega (arith, laid_small few, small) }
 
 module _ (l m d : List ℕ) (laid : ℕ) where
   abbrev Answers : ℕ → List ℕ → List ℕ → Type 0
@@ -251,12 +208,13 @@ module _ (l m d : List ℕ) (laid : ℕ) where
     play_large k = (too_large d _ _ laid h k, too_large d _ _ laid h k, too_large d _ _ laid h k)
 
     pub play_given : laid ≤ 4294967295 → (r : Played) (e : List ℕ) → Plays (play_line laid m l) r e
-        → (q : List ℕ) → q ≡ r.line.bytes → Answers (r.line.len + r.laid * 65536) e (q ++ drop 512 d)
-    unfolding pack_played
-    play_given few r e plays q c = (
-      (λ i. plays.line.len i + plays.laid i * 65536) ∙ played d _ _ laid h few,
+        → (n : ℕ) → n ≡ length r.line → (q : List ℕ) → q ≡ r.line ++ replicate (512 - length r.line) 0
+        → Answers (n + r.laid * 65536) e (q ++ drop 512 d)
+    unfolding pack_played filled
+    play_given few r e plays n is q c = (
+      (λ i. (is ∙ ap length plays.line) i + plays.laid i * 65536) ∙ played d _ _ laid h few,
       plays.memory ∙ played d _ _ laid h few,
-      copied r.line.bytes d q c
-          ∙ ap (λ (x : List ℕ). handed x d) (its_line l m laid r e plays)
+      copied (filled r.line) d q c
+          ∙ ap (λ (x : List ℕ). handed (filled x) d) plays.line
           ∙ played d _ _ laid h few,
     )

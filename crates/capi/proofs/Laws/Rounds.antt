@@ -1,8 +1,10 @@
 -- Rounds on a lent board: the call's own promise with its answer packed, and the list that is too long to tell of.
 -- Relies on the packing's definitions and on the model's rounds; the proof of `lufanelis_rounds` relies on it.
 use Rattle.model.proofs.Kit.{◌≡◌, refl, sym, ap, ◌∙◌, List, ℕ, ◌≤◌, ◌<◌, le-leb, lt-leb, length, arith}
-use Rattle.model.specs.declared.RoundsVerdict.{RoundsVerdict}
-use Rattle.model.specs.declared.RoundsVerdict.TheVariants as byRound
+use Rattle.std.specs.Prelude.{Ok, Err}
+use Rattle.std.specs.declared.result.Result.{Result}
+use Rattle.model.specs.declared.refusal.Refusal.{Refusal}
+use Rattle.model.specs.declared.RoundsPlayed.{RoundsPlayed}
 use Rattle.model.specs.Rounds.{rounds, round_end, lent_rounds}
 use Rattle.model.specs.Told.{rounds_told}
 use Rattle.model.proofs.Basics.Ended.{parts_fewer}
@@ -18,22 +20,22 @@ module _ (k : ℕ) (named b : List ℕ) where
   unfolding countable
   rounds_too_long h = rw (lt-leb (length named) 4294967295 h) (refl, refl)
 
-  module _ (w : RoundsVerdict) (d : List ℕ)
+  module _ (w : Result RoundsPlayed Refusal) (d : List ℕ)
       (answered : (rounds_told w ≡ (rounds k (lent_rounds named) b).answer)
       × (d ≡ (rounds k (lent_rounds named) b).bytes)) (few : length named ≤ 4294967295) where
     -- the number of rounds fits its bits
     pub rounds_few : FewRounds w
     rounds_few = go w refl
       where
-        go : (v : RoundsVerdict) → w ≡ v → FewRounds v
-        go (byRound.Played r s) e = unfold FewRounds lent_rounds in
+        go : (v : Result RoundsPlayed Refusal) → w ≡ v → FewRounds v
+        go (Ok p) e = unfold FewRounds lent_rounds in
             omega (
               arith,
-              rounds_told_lem k (lent_rounds named) b r s
+              rounds_told_lem k (lent_rounds named) b p.rounds p.decided
                   (sym answered.0 ∙ ap rounds_told e ∙ (unfold rounds_told in refl)),
               parts_fewer round_end named,
             )
-        go (byRound.Refused j) e = unfold FewRounds in tt
+        go (Err j) e = unfold FewRounds in tt
 
     pub rounds_packed : (r : ℕ) → r ≡ pack_rounds (rounds_told w)
         → (r ≡ countable named (pack_rounds (rounds k (lent_rounds named) b).answer) 18446744073709551615)

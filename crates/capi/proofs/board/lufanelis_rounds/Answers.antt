@@ -8,7 +8,7 @@ pub returns-then-named-gt4294967295 : goal.returns-then-named-gt4294967295
 returns-then-named-gt4294967295 c = rounds_too_long _ _ _ (omega arith)
 
 pub rounds_number-requires : goal.rounds_number-requires
-rounds_number-requires c = rounds_few _ _ _ _ _ c.rounds.ensures (omega arith)
+rounds_number-requires c = rounds_few _ _ _ _ _ (c.rounds.ensures.answer, c.rounds.ensures.bytes) (omega arith)
 
 pub returns : goal.returns
 returns c = rounds_packed _ _ _ _ _ (search) (omega arith) _ c.rounds_number.ensures

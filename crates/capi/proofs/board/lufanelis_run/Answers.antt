@@ -4,7 +4,7 @@ use Rattle.capi.proofs.Laws.Board.{run_few, run_packed}
 use Rattle.capi.proofs.board.lufanelis_run.Goals as goal
 
 pub run_number-requires : goal.run_number-requires
-run_number-requires c = run_few _ _ _ _ c.run.ensures
+run_number-requires c = run_few _ _ _ _ (c.run.ensures.answer, c.run.ensures.bytes)
 
 pub returns : goal.returns
 returns c = run_packed _ _ _ _ (search) _ c.run_number.ensures

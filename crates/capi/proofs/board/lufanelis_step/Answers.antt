@@ -4,4 +4,4 @@ use Rattle.packing.specs.Packing.{pack_step}
 use Rattle.capi.proofs.board.lufanelis_step.Goals as goal
 
 pub returns : goal.returns
-returns c = (c.step_number.ensures ∙ ap pack_step (search), c.step.ensures.1)
+returns c = (c.step_number.ensures ∙ ap pack_step (search), c.step.ensures.bytes)
