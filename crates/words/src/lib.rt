@@ -1,9 +1,10 @@
 // The word store: every word of a run sheet's forms and answers, of a tape line and of what is said of two tapes. Each stands
-// once, end to end with the others, beside the lengths of all; a word is named by its variant of `Word`.
+// once, end to end with the others, beside the lengths of all; a word is named by its variant of `Word`, or by that one's number.
 // Relies on the writer of lines; nothing rests on it yet.
 #![tactic(auto)]
 
 ghost use Rattle.std.specs.Prelude.{◌≡◌, ◌+◌, ◌<◌, ◌≤◌, ◌++◌, length, IfSome};
+ghost use Rattle.model.specs.Bytes.{splice};
 ghost use Rattle.words.specs.Index.{place, place_or_all};
 ghost use Rattle.words.specs.Store.{Packed, words, word_text, index_in};
 
@@ -73,19 +74,54 @@ pub fn word_of(part: &[u8]) -> Option<Word>
     None
 }
 
+// The index of the word that a part is, and 22 where it is none.
+#[tactic(auto, using(crate::proofs::Laws::Walking::words_count))]
+pub fn index_of(part: &[u8]) -> usize
+    ensures { result ≡ index_in words part.now }
+{
+    match word_of(part) {
+        Some(word) => usize::from(word),
+        None => 22,
+    }
+}
+
+// The letters of a word, behind those of all the words before it.
+fn letters_of(store: &Store, word: Word) -> &[u8]
+    requires { Packed store.now.lengths store.now.letters words }
+    ensures { result.now ≡ word_text (place word) }
+{
+    let place = usize::from(word);
+    let from: usize = store.lengths[..place]
+        .iter()
+        .map(|&length| usize::from(length))
+        .sum();
+    let end = from + usize::from(store.lengths[place]);
+    &store.letters[from..end]
+}
+
 // A word, put at a line's end.
-pub fn write_named(line: &mut Line, word: Word)
+pub fn push_named(line: &mut Line, word: Word)
     requires { length line.old + length (word_text (place word)) ≤ 512 }
     ensures { line.new ≡ line.old ++ word_text (place word) }
 {
     let store = packed();
-    let lengths = store.lengths;
-    let letters = store.letters;
-    let place = usize::from(word);
-    let from: usize = lengths[..place]
-        .iter()
-        .map(|&length| usize::from(length))
-        .sum();
-    let end = from + usize::from(lengths[place]);
-    line.push_word(&letters[from..end]);
+    line.push_word(letters_of(&store, word));
+}
+
+// The word with an index, written at a place of the lent bytes of a line, whatever stands before and behind; what is handed back
+// is where it ends. No text belongs to an index that names no word.
+#[tactic(auto, using(crate::proofs::Laws::Writing::putting))]
+pub fn write_named(bytes: &mut [u8; 512], at: usize, word: usize) -> usize
+    requires { at + length (word_text word) ≤ 512 }
+    ensures bytes { bytes.new ≡ splice at (word_text word) bytes.old }
+    ensures end { result ≡ at + length (word_text word) }
+{
+    let Ok(named) = Word::try_from(word) else {
+        return at;
+    };
+    let store = packed();
+    let letters = letters_of(&store, named);
+    let end = at + letters.len();
+    bytes[at..end].copy_from_slice(letters);
+    end
 }

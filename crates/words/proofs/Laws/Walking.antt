@@ -1,5 +1,5 @@
 -- The store word by word: where a word's letters stand, and how far a search for a text has come.
--- Relies on the definitions of the store; the proofs of word_of and write_named rely on it.
+-- Relies on the definitions of the store; the proofs of word_of and letters_of rely on it.
 use Rattle.model.proofs.Kit.{◌≡◌, refl, sym, ap, ◌∙◌, Bool, true, false, cond, List, [], ℕ, suc, ◌+◌}
 use Rattle.model.proofs.Kit.{◌-◌, ◌≤◌, ◌<◌, length, take, drop, get_or, drop_of_length-le, add-one, arith}
 use lib.Seq.{take-suc, drop-cons}

@@ -1,15 +1,18 @@
--- The word with an index as the code takes it from the store, an index that names no word, and how long words are.
--- Relies on the walk along the store; the proof of write_named and those who write words rely on it.
-use Rattle.model.proofs.Kit.{◌≡◌, ap, ◌∙◌, true, false, List, [], ℕ, ◌+◌, ◌-◌, ◌≤◌, ◌<◌, ltb-true, ltb-false, leb, ltb}
-use Rattle.model.proofs.Kit.{leb→le, T}
+-- The word with an index as the code takes it from the store, an index that names no word, a word put into lent bytes, and how
+-- long words are.
+-- Relies on the walk along the store; the proofs of letters_of and write_named and those who write words rely on it.
+use Rattle.model.proofs.Kit.{◌≡◌, sym, ap, ◌∙◌, true, false, List, [], ◌++◌, append_assoc, ℕ, ◌+◌, ◌-◌, ◌≤◌, ◌<◌}
+use Rattle.model.proofs.Kit.{ltb-true, ltb-false, leb, ltb, leb→le, T}
 use Rattle.model.proofs.Kit.{length, take, drop, get_or, arith}
 use lib.ListN.{get_or-eq_default}
-use Rattle.model.specs.Bytes.{every}
+use borrow.Rule.Slice.PartMut.{put_mid, Post-is}
+use Rattle.model.specs.Bytes.{every, splice}
 use Rattle.model.specs.Show.{text, text_from}
+use Rattle.model.proofs.Basics.Splices.{splice_none}
 use Rattle.model.proofs.Basics.Tests.{every_at, by_test}
 use Rattle.std.specs.Prelude.{sum}
 use Rattle.words.specs.Store.{words, word_text, Packed}
-use Rattle.words.proofs.Laws.Walking.{part_is}
+use Rattle.words.proofs.Laws.Walking.{words_count, part_is}
 
 -- ---- the text of an index
 
@@ -25,6 +28,25 @@ word_is {letters = letters} packed {from = from} h at long =
 pub no_word : {i : ℕ} → length words ≤ i → word_text i ≡ []
 unfolding word_text
 no_word {i} h = get_or-eq_default words [] {n = i} h
+
+-- ---- a text put into lent bytes
+
+-- the part of the bytes from `at` on, back in its place with the text
+pub part_back : (at : ℕ) (b : List ℕ) {end : ℕ} {y t : List ℕ} → end ≡ at + length t → y ≡ t
+    → put_mid at (end - at) b y ≡ splice at t b
+unfolding splice
+part_back at b {end} {y} {t} h e =
+    ap (λ (r : List ℕ). take at b ++ (y ++ r)) (Post-is at end b (omega (arith, h)))
+    ∙ ap (λ (x : List ℕ). take at b ++ (x ++ drop end b)) e
+    ∙ sym (append_assoc (take at b) t (drop end b))
+    ∙ ap (λ (k : ℕ). take at b ++ t ++ drop k b) h
+
+-- where no word has the index nothing is put
+pub none_put : {i : ℕ} → length words ≤ i → (at : ℕ) (b : List ℕ) → b ≡ splice at (word_text i) b
+none_put h at b = sym (splice_none at b) ∙ ap (λ (t : List ℕ). splice at t b) (sym (no_word h))
+
+-- what the code finds by itself of both
+pub ruleset putting = (part_back, none_put, no_word, words_count)
 
 -- ---- how long a word is
 
