@@ -14,7 +14,7 @@ use lexer::known::{known_figure, known_number};
 use model::refusal::Refusal;
 use pair_reader::Pair;
 use proposing::single::put_in;
-use proposing::trying::try_pair;
+use proposing::trying::try_next;
 use soundness::board::check_board;
 
 // The pair whose bracket opens at `at`.
@@ -45,7 +45,7 @@ fn refusal_at(board: &[u8], line: &[u8], at: usize) -> Result<(), Refusal>
     let mut place = at;
     while line[place] == b' ' {
         let pair = pair_at(line, place + 1);
-        so_far = try_pair(board, &mut flags, pair.value.station, so_far);
+        so_far = try_next(board, &mut flags, pair.value.station, so_far);
         place = pair.next;
     }
     so_far

@@ -11,7 +11,7 @@ ghost use Rattle.model.specs.Told.{verdict};
 ghost use Rattle.proposing.specs.Lent.{pair_of};
 
 use crate::single::put_in;
-use crate::trying::try_pair;
+use crate::trying::try_next;
 use figures::{bits_of, signed};
 use model::refusal::Refusal;
 
@@ -46,7 +46,7 @@ pub fn pairs_refusal(board: &[u8], pairs: &[u64]) -> Result<(), Refusal>
     let mut flags = [false; 256];
     let mut so_far = Ok(());
     for &pair in pairs {
-        so_far = try_pair(board, &mut flags, station_of(pair), so_far);
+        so_far = try_next(board, &mut flags, station_of(pair), so_far);
     }
     so_far
 }
