@@ -24,6 +24,10 @@ pub record Taping : Type 0 where
 unfoldable pub tape_line : Entry → List ℕ
 tape_line e = entry_text e ++ (10 ∷ [])
 
+-- the line of a step of station number i
+abbrev pub step_line : ℕ → List ℕ → List ℕ
+step_line i b = tape_line (record { station = i; report = (step_on i b).answer })
+
 -- a step was taken that is the tape's next line, and left the board d
 unfoldable pub line_taken : Entry → (d : List ℕ) → Taping → Taping
 line_taken e d s =

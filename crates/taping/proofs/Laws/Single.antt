@@ -15,7 +15,7 @@ use Rattle.accessing.specs.Accessed.{StepsOn}
 use Rattle.stepping.specs.Stepped.{RunsOn}
 use Rattle.tape_writer.proofs.Laws.WritingLength.{line_short}
 use Rattle.taping.specs.declared.Taped.{Taped}
-use Rattle.taping.specs.Taping.{Taping, taping, tape_line, line_taken, taped_one, taped_steps}
+use Rattle.taping.specs.Taping.{Taping, taping, tape_line, step_line, line_taken, taped_one, taped_steps}
 use Rattle.taping.proofs.Laws.Steps.{written, entry_at}
 use Rattle.taping.proofs.Laws.Passed.{one_refused, all_passed}
 
@@ -35,6 +35,29 @@ module _ (i : ℕ) (s : Taping) where
 
 pub line_long : (line : List ℕ) (e : Entry) → line ≡ entry_text e ++ (10 ∷ []) → length line ≤ 55
 line_long line e h = omega (arith, ap length h, line_short e)
+
+pub board_is : (i : ℕ) (b : List ℕ) (a : StepAnswer) (d : List ℕ) → StepsOn i b a d → d ≡ (step_on i b).bytes
+unfolding StepsOn
+board_is i b a d h = h.1
+
+pub count_few : (i : ℕ) (b : List ℕ) (n : ℕ) → n ≡ length (step_line i b) → n ≤ 55
+unfolding tape_line
+count_few i b n h = omega (arith, h, line_short (entry_at i b))
+
+-- as the step and its writer leave it
+module _ (i : ℕ) (b : List ℕ) (a : StepAnswer) (d : List ℕ) (h : StepsOn i b a d) (line : List ℕ)
+    (is : line ≡ entry_text (record { station = i; report = told a }) ++ (10 ∷ [])) where
+  pub line_is : line ≡ step_line i b
+  unfolding StepsOn tape_line
+  line_is = is ∙ ap (λ (r : Report Figure). entry_text (record { station = i; report = r }) ++ (10 ∷ [])) h.0
+
+  pub line_at : (at : ℕ) (out now : List ℕ) → now ≡ splice at line out → now ≡ splice at (step_line i b) out
+  line_at at out now e = e ∙ ap (λ (l : List ℕ). splice at l out) line_is
+
+  pub line_count : (n : ℕ) → n ≡ length line → n ≡ length (step_line i b)
+  line_count n e = e ∙ ap length line_is
+
+pub ruleset writing = (line_long, board_is, line_at, line_count)
 
 -- ---- the returns
 
@@ -59,19 +82,13 @@ module _ (i : ℕ) (b out : List ℕ) (t : Taped) where
     step_refused n = sym (one_refused i (taping b out t) (sym going ∙ n))
 
     pub line_put : q ≡ true → (t.room ≡ 0 → ⊥) → t.left ≤ 0
-        → (a : StepAnswer) (d : List ℕ) → StepsOn i b a d → (line : List ℕ)
-        → line ≡ entry_text (record { station = i; report = told a }) ++ (10 ∷ [])
-        → (now : List ℕ) → now ≡ splice t.len line out
-        → (n : ℕ) → n ≡ length line
+        → (d : List ℕ) → d ≡ (step_on i b).bytes
+        → (now : List ℕ) → now ≡ splice t.len (step_line i b) out
+        → (n : ℕ) → n ≡ length (step_line i b)
         → taping d now (record { left = 0; room = t.room - 1; len = t.len + n })
         ≡ taped_one i (taping b out t)
-    unfolding StepsOn tape_line
-    line_put y wanted none_left a d h line is now e n count =
-        let line_is : entry_text (record { station = i; report = told a }) ++ (10 ∷ []) ≡ tape_line (entry_at i b) =
-        ap (λ (r : Report Figure). entry_text (record { station = i; report = r }) ++ (10 ∷ [])) h.0 in
-        let put = e ∙ ap (λ (l : List ℕ). splice t.len l out) (is ∙ line_is) in
-        let long = count ∙ ap length (is ∙ line_is) in
-        (λ j. taping (h.1 j) (put j) (record { left = 0; room = t.room - 1; len = t.len + long j }))
+    line_put y wanted none_left d h now put n count =
+        (λ j. taping (h j) (put j) (record { left = 0; room = t.room - 1; len = t.len + count j }))
         ∙ sym (one_written i (taping b out t) wanted (sym going ∙ y) (omega arith))
 
-pub ruleset one_step = (none_wanted, counted_few, passed_over_lem, line_long, step_refused)
+pub ruleset one_step = (none_wanted, counted_few, passed_over_lem, count_few, step_refused)
