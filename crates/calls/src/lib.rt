@@ -12,7 +12,7 @@ pub use proposing::lent::pair;
 pub use proposing::single::propose;
 pub use proposing::together::propose_all;
 pub use rounds::calling::rounds;
-pub use showing::show;
+pub use showing::{ShownLine, show, show_by_value};
 pub use soundness::board::check_board;
 pub use stepping::running::run;
 pub use stepping::single::step;

@@ -1,7 +1,7 @@
 -- The shown line: one more station, the whole of it, and the answer at each return.
 -- Relies on the laws of the writer of lines and on the model's soundness; the proofs of `show` rely on it.
-use Rattle.model.proofs.Kit.{◌≡◌, sym, ap, subst, ◌∙◌, List, [], ◌∷◌, ◌++◌, append_assoc, append-nil, none, ℕ}
-use Rattle.model.proofs.Kit.{◌+◌, ◌≤◌, ◌<◌, leb, le→leb, length, get_or, length-append, add-one, arith}
+use Rattle.model.proofs.Kit.{◌≡◌, sym, ap, subst, ◌∙◌, List, [], ◌∷◌, ◌++◌, append_assoc, append-nil, none, some}
+use Rattle.model.proofs.Kit.{ℕ, ◌+◌, ◌-◌, ◌≤◌, ◌<◌, leb, le→leb, length, replicate, get_or, length-append, add-one, arith}
 use Rattle.model.specs.declared.Record.{Record}
 use Rattle.std.specs.Prelude.{Ok, Err}
 use Rattle.std.specs.declared.result.Result.{Result}
@@ -11,13 +11,15 @@ use Rattle.model.specs.Figure.{Figure}
 use Rattle.model.specs.Listing.{Station}
 use Rattle.model.specs.Layout.{record_at, read_record, record_value, record_of, station_of}
 use Rattle.model.specs.Calls.{Refusal, stations, islands, board_refusal, unless}
-use Rattle.model.specs.Show.{text, text_from, statuses, shown_line, shown_as, show}
+use Rattle.model.specs.Show.{Shown, text, text_from, statuses, shown_line, shown_as, show}
 use Rattle.model.specs.Told.{verdict, number, shown_told}
 use Rattle.model.proofs.Board.Values.{sound_station}
 use Rattle.model.proofs.Calls.Refusals.{Board, board_of_lem, board_passes, board_first, unless_passes}
 use Rattle.shown.specs.Texts.{status_of, island_shown}
 use Rattle.shown.proofs.Bounds.{status_bound, good_island, statuses_more, statuses_bound, line_bound}
+use Rattle.calls.specs.declared.showing.ShownLine.{ShownLine}
 use Rattle.calls.specs.Showing.{open_to}
+use Rattle.calls.specs.Shown.{shown_bytes}
 use Rattle.model.proofs.Board.Places.{record_inside}
 use Rattle.soundness.proofs.Laws.Checked.{turned}
 use Rattle.soundness.proofs.Laws.Placing.{head, head_long, n_high, k_high}
@@ -110,6 +112,24 @@ value_at b j at f e q = ap record_value q ∙ ap (λ (k : ℕ). record_value (re
 pub record_inside_at : (b : List ℕ) (j at : ℕ) → board_refusal b none ≡ none → j < get_or b 0 0
     → at ≡ record_at (get_or b 0 0) (get_or b 1 0) j → at + 24 ≤ length b
 record_inside_at b j at s l e = omega (arith, record_inside (get_or b 0 0) (get_or b 1 0) j l, (head b s).len)
+
+-- ---- the line as bytes and a length
+
+module _ (b : List ℕ) (r : Result (List ℕ) refusals.Refusal) (told : shown_told r ≡ show b) where
+  pub given_by_value : (l : List ℕ) → r ≡ Ok l → (q : List ℕ) → q ≡ l ++ replicate (512 - length l) 0
+      → (n : ℕ) → n ≡ length l → shown_bytes (record { verdict = Ok tt; bytes = q; len = n }) ≡ show b
+  unfolding shown_bytes verdict shown_told shown_as
+  given_by_value l e q is n counted =
+      let s : List ℕ → ℕ → Shown = λ t k. record { refusal = none; line = t; len = k } in
+      ap (λ (t : List ℕ). s t n) is
+      ∙ ap (λ (k : ℕ). s (l ++ replicate (512 - length l) 0) k) counted
+      ∙ sym (ap shown_told e)
+      ∙ told
+
+  pub refused_by_value : (k : refusals.Refusal) → r ≡ Err k → (s : ShownLine)
+      → shown_bytes s ≡ shown_as (some (number k)) [] → shown_bytes s ≡ show b
+  unfolding shown_told
+  refused_by_value k e s zeros = zeros ∙ sym (ap shown_told e) ∙ told
 
 -- what each step of a shown line has to show, and of the call
 pub ruleset steps = (head_long, n_high, k_high, begins, value_at, record_inside_at, fits_one, one_more, closes, shown_on)
