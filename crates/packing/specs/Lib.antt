@@ -1,2 +1,3 @@
--- What an answer is as one number.
+-- What an answer is as one number, whichever number its refusal has.
 pub mod Packing
+pub mod Numbered

@@ -5,7 +5,6 @@ use Rattle.std.specs.declared.result.Result.{Result}
 use Rattle.std.proofs.Math.Option.{none, some}
 use Rattle.std.specs.Int.{w32}
 use Rattle.std.proofs.Common.{of_z}
-use Rattle.model.specs.declared.refusal.Refusal as refusals
 use Rattle.model.specs.declared.Ran.{Ran}
 use Rattle.model.specs.declared.RoundsPlayed.{RoundsPlayed}
 use Rattle.model.specs.declared.Effort.{Effort}
@@ -50,7 +49,7 @@ unfoldable pub pack_step : Report Figure → ℕ
 pack_step r = pack_answer r.did + r.met * 16777216
 
 -- a run's counts have room in their bits
-unfoldable pub Few : Result Ran refusals.Refusal → Type 0
+unfoldable pub Few : {E : Type 0} → Result Ran E → Type 0
 Few (Ok r) = r.taken + r.passed ≤ 65536
 Few (Err k) = Unit {0}
 
@@ -60,7 +59,7 @@ pack_run (ran s t) = s * 256 + t * 4294967296
 pack_run (not_run k) = k
 
 -- the rounds have room in their bits; so has the number of decided stations, which is a byte
-unfoldable pub FewRounds : Result RoundsPlayed refusals.Refusal → Type 0
+unfoldable pub FewRounds : {E : Type 0} → Result RoundsPlayed E → Type 0
 FewRounds (Ok r) = r.rounds ≤ 4294967295
 FewRounds (Err k) = Unit {0}
 
@@ -80,7 +79,7 @@ standing_part (stands_decided c v) = packed_standing 0 3 c (bits v)
 standing_part (stands_spent c v) = packed_standing 0 4 c (bits v)
 
 -- a station's steps have room in their bits
-unfoldable pub FewSteps : Result Effort refusals.Refusal → Type 0
+unfoldable pub FewSteps : {E : Type 0} → Result Effort E → Type 0
 FewSteps (Ok e) = e.steps ≤ 4095
 FewSteps (Err k) = Unit {0}
 

@@ -1,23 +1,23 @@
-// Answers packed into one number.
+// Answers packed into one number. A refusal is any that converts to a number of a byte, that number itself too.
 // Relies on a figure's bits; the calls for C rely on it.
 #![tactic(auto)]
 
 ghost use Rattle.std.specs.Prelude.{◌≡◌, cond, ◌+◌, ◌*◌, ◌≤◌};
-ghost use Rattle.model.specs.Told.{number, told, verdict, run_told, rounds_told, standing_told, standing_answered};
+ghost use Rattle.model.specs.Told.{told, standing_told};
 ghost use Rattle.packing.specs.Packing.{bits, packed_at, packed, pack_verdict, pack_step, pack_run, pack_rounds, pack_standing};
 ghost use Rattle.packing.specs.Packing.{pack_word, standing_part, Few, FewRounds, FewSteps};
+ghost use Rattle.packing.specs.Numbered.{Numbered, verdict_of, run_of, rounds_of, standing_of};
 
 use figures::bits_of;
-use model::refusal::Refusal;
 use model::{Effort, Ran, RoundsPlayed, Standing, StepAnswer};
 
-#[tactic(auto, unfolding(crate::specs::Packing::pack_verdict, model::specs::Told::verdict))]
-pub fn verdict_number(answer: Result<(), Refusal>) -> u8
-    ensures { result ≡ pack_verdict (verdict answer) }
+#[tactic(auto, using(crate::proofs::Laws::Numbered::numbered_ok), unfolding(crate::specs::Packing::pack_verdict, crate::specs::Numbered::verdict_of))]
+pub fn verdict_number<E: Into<u8>>(answer: Result<(), E>) -> u8
+    ensures { Numbered E.converts answer (λ a. result ≡ pack_verdict (verdict_of a)) }
 {
     match answer {
         Ok(()) => 0,
-        Err(refusal) => u8::from(refusal),
+        Err(refusal) => refusal.into(),
     }
 }
 
@@ -90,16 +90,17 @@ pub fn step_number(answer: StepAnswer) -> u64
 }
 
 // A refusal of a call whose answer has 64 bits: its number only.
-fn refusal_number(refusal: Refusal) -> u64
-    ensures { result ≡ number refusal }
+fn refusal_number<E: Into<u8>>(refusal: E) -> u64
+    ensures { E.converts refusal result }
 {
-    u64::from(u8::from(refusal))
+    let number: u8 = refusal.into();
+    u64::from(number)
 }
 
-#[tactic(auto, unfolding(crate::specs::Packing::Few, crate::specs::Packing::pack_run, model::specs::Told::run_told))]
-pub fn run_number(answer: Result<Ran, Refusal>) -> u64
+#[tactic(auto, using(crate::proofs::Laws::Numbered::numbered_ok), unfolding(crate::specs::Packing::Few, crate::specs::Packing::pack_run, crate::specs::Numbered::run_of))]
+pub fn run_number<E: Into<u8>>(answer: Result<Ran, E>) -> u64
     requires { Few answer }
-    ensures { result ≡ pack_run (run_told answer) }
+    ensures { Numbered E.converts answer (λ a. result ≡ pack_run (run_of a)) }
 {
     match answer {
         Ok(ran) => u64::from(ran.taken) * 256 + u64::from(ran.passed) * 4294967296,
@@ -107,10 +108,10 @@ pub fn run_number(answer: Result<Ran, Refusal>) -> u64
     }
 }
 
-#[tactic(auto, unfolding(crate::specs::Packing::FewRounds, crate::specs::Packing::pack_rounds, model::specs::Told::rounds_told))]
-pub fn rounds_number(answer: Result<RoundsPlayed, Refusal>) -> u64
+#[tactic(auto, using(crate::proofs::Laws::Numbered::numbered_ok), unfolding(crate::specs::Packing::FewRounds, crate::specs::Packing::pack_rounds, crate::specs::Numbered::rounds_of))]
+pub fn rounds_number<E: Into<u8>>(answer: Result<RoundsPlayed, E>) -> u64
     requires { FewRounds answer }
-    ensures { result ≡ pack_rounds (rounds_told answer) }
+    ensures { Numbered E.converts answer (λ a. result ≡ pack_rounds (rounds_of a)) }
 {
     match answer {
         Ok(played) => u64::from(played.decided) * 256 + played.rounds as u64 * 65536,
@@ -132,10 +133,10 @@ fn stands_number(standing: Standing) -> u64
     }
 }
 
-#[tactic(auto, unfolding(crate::specs::Packing::FewSteps, crate::specs::Packing::pack_standing, crate::specs::Packing::packed_at, model::specs::Told::standing_answered))]
-pub fn standing_number(answer: Result<Effort, Refusal>) -> u64
+#[tactic(auto, using(crate::proofs::Laws::Numbered::numbered_ok), unfolding(crate::specs::Packing::FewSteps, crate::specs::Packing::pack_standing, crate::specs::Packing::packed_at, crate::specs::Numbered::standing_of))]
+pub fn standing_number<E: Into<u8>>(answer: Result<Effort, E>) -> u64
     requires { FewSteps answer }
-    ensures { result ≡ pack_standing (standing_answered answer) }
+    ensures { Numbered E.converts answer (λ a. result ≡ pack_standing (standing_of a)) }
 {
     match answer {
         Ok(effort) => stands_number(effort.standing) + u64::from(effort.steps) * 1048576,

@@ -1,2 +1,3 @@
--- What a comparison is as numbers.
+-- What a comparison is as numbers, whatever its refusal is.
 pub mod Numbers
+pub mod Compared

@@ -1,6 +1,6 @@
 -- The answer of a comparison as numbers in a lent list: the line number with the tape, and the place of a part.
 -- Relies on the model's comparison; the contracts of the crate and of the calls for C rely on it.
-use Rattle.std.specs.Prelude.{cond, List, ◌∷◌, ℕ, leb, length, drop}
+use Rattle.std.specs.Prelude.{cond, MatchBool, List, ◌∷◌, ℕ, leb, length, drop}
 use Rattle.model.specs.Tape.{Tap, first, second, Compared, not_compared, alike, differs}
 
 -- "the first tape's .. else the second's"; 0 stands for none
@@ -31,3 +31,7 @@ found_in (differs k t) l = two_in k (tap_number t) l
 -- what a call gives that has room for two numbers, and what one without it gives
 unfoldable pub two_fit : {A : Type 0} → List ℕ → A → A → A
 two_fit l given other = cond (leb 2 (length l)) given other
+
+-- and what holds of one that has room for them, and of one that has not
+unfoldable pub TwoFit : List ℕ → (room no_room : Type 0) → Type 0
+TwoFit l room no_room = MatchBool (leb 2 (length l)) room no_room

@@ -1,12 +1,14 @@
-// The answer of a comparison as numbers: one by value, and two put into a lent list.
-// Relies on the declared types; the calls for C rely on it.
+// The answer of a comparison as numbers: one by value, and two put into a lent list. A refusal is any that converts to a number
+// of a byte, that number itself too.
+// Relies on the declared types and on what the packing says of a refusal; the calls for C rely on it.
 #![tactic(auto)]
 
 ghost use Rattle.std.specs.Prelude.{◌≡◌, ◌≤◌, length};
-ghost use Rattle.model.specs.Told.{tap_told, comparison_told, start_told, length_told};
-ghost use Rattle.tape_numbers.specs.Numbers.{tap_number, refusal_number, culprit_number, two_in, found_in, two_fit};
+ghost use Rattle.model.specs.Told.{tap_told};
+ghost use Rattle.packing.specs.Numbered.{Numbered};
+ghost use Rattle.tape_numbers.specs.Numbers.{tap_number, refusal_number, two_in, found_in, two_fit, TwoFit};
+ghost use Rattle.tape_numbers.specs.Compared.{comparison_of, culprit_of, start_of, length_of};
 
-use model::refusal::Refusal;
 use model::{Difference, Tap};
 
 // For a list without room: neither a refusal nor a tape has this number.
@@ -33,10 +35,12 @@ fn put_two(list: &mut [u64], a: u64, b: u64)
 }
 
 // The refusal's number, and in the list the line number and its tape.
-#[tactic(auto, unfolding(crate::specs::Numbers::two_fit, crate::specs::Numbers::refusal_number, crate::specs::Numbers::found_in, model::specs::Told::comparison_told, model::specs::Told::tap_told))]
-pub fn put_found(answer: Result<Option<Difference>, Refusal>, found: &mut [u64]) -> u8
-    ensures number { result ≡ two_fit found.old (refusal_number (comparison_told answer)) 255 }
-    ensures list { found.new ≡ two_fit found.old (found_in (comparison_told answer) found.old) found.old }
+#[tactic(auto, unfolding(crate::specs::Numbers::TwoFit, packing::specs::Numbered::Numbered, crate::specs::Numbers::refusal_number, crate::specs::Numbers::found_in, crate::specs::Compared::comparison_of, model::specs::Told::tap_told))]
+pub fn put_found<E: Into<u8> + Drop>(answer: Result<Option<Difference>, E>, found: &mut [u64]) -> u8
+    ensures { TwoFit found.old
+        (Numbered E.converts answer (λ a. (result ≡ refusal_number (comparison_of a))
+        × (found.new ≡ found_in (comparison_of a) found.old)))
+        ((result ≡ 255) × (found.new ≡ found.old)) }
 {
     if found.len() < 2 {
         return NO_ROOM;
@@ -48,16 +52,16 @@ pub fn put_found(answer: Result<Option<Difference>, Refusal>, found: &mut [u64])
             differs.line as u64,
             u64::from(tap_number(differs.tap)),
         ),
-        Err(refusal) => return u8::from(refusal),
+        Err(refusal) => return refusal.into(),
     }
     0
 }
 
 // The tape of the culprit's line, 0 for none, and in the list the line's place on that tape and its length.
-#[tactic(auto, unfolding(crate::specs::Numbers::two_fit, crate::specs::Numbers::culprit_number, model::specs::Told::comparison_told, model::specs::Told::start_told, model::specs::Told::length_told))]
-pub fn put_part(answer: Result<Option<Difference>, Refusal>, part: &mut [u64]) -> u8
-    ensures number { result ≡ two_fit part.old (culprit_number (comparison_told answer)) 255 }
-    ensures list { part.new ≡ two_fit part.old (two_in (start_told answer) (length_told answer) part.old) part.old }
+#[tactic(auto, unfolding(crate::specs::Numbers::two_fit, crate::specs::Compared::culprit_of, crate::specs::Compared::start_of, crate::specs::Compared::length_of))]
+pub fn put_part<E: Drop>(answer: Result<Option<Difference>, E>, part: &mut [u64]) -> u8
+    ensures number { result ≡ two_fit part.old (culprit_of answer) 255 }
+    ensures list { part.new ≡ two_fit part.old (two_in (start_of answer) (length_of answer) part.old) part.old }
 {
     if part.len() < 2 {
         return NO_ROOM;

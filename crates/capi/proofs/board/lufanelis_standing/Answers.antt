@@ -2,6 +2,7 @@
 -- fit their bits.
 use Rattle.model.proofs.Kit.{ap, ◌∙◌}
 use Rattle.packing.specs.Packing.{pack_standing}
+use Rattle.packing.proofs.Laws.Numbered.{standing_packed}
 use Rattle.capi.proofs.Laws.Board.{standing_few}
 use Rattle.capi.proofs.board.lufanelis_standing.Goals as goal
 
@@ -9,4 +10,4 @@ pub standing_number-requires : goal.standing_number-requires
 standing_number-requires c = search standing_few
 
 pub returns : goal.returns
-returns c = c.standing_number.ensures ∙ ap pack_standing (search)
+returns c = standing_packed _ _ c.standing_number.ensures ∙ ap pack_standing (search)

@@ -1,0 +1,2 @@
+-- Laws over plain variables, one subject a file.
+pub mod Numbered

@@ -1,0 +1,11 @@
+-- `run_number` beside a refusal: the number that it converts to, alone.
+-- Relies on the laws of a refusal's number.
+use Rattle.model.proofs.Kit.{refl}
+use Rattle.packing.specs.Packing.{pack_run}
+use Rattle.packing.specs.Numbered.{run_of}
+use Rattle.packing.proofs.Laws.Numbered.{numbered_err}
+use Rattle.packing.proofs.run_number.Goals as goal
+
+pub returns-in-Err : goal.returns-in-Err
+unfolding pack_run run_of
+returns-in-Err g c = numbered_err _ _ _ _ c.in-Err.is _ c.refusal_number.ensures refl

@@ -1,0 +1,2 @@
+-- Laws that the proofs of the functions, and of those who call them, cite.
+pub mod Laws
