@@ -14,13 +14,7 @@ use shown::status::write_standing;
 // A step that ended a collect: its word with the island or the flag and the figure, and the collect's total last. The word's
 // length is known as it is compiled, so that it is copied by stores and by no call.
 #[tactic(auto, unfolding(crate::specs::Writing::end_bytes, model::specs::Show::text, model::specs::Show::text_from))]
-fn write_end<const N: usize>(
-    line: &mut Line,
-    word: &[u8; N],
-    field: u8,
-    figure: i32,
-    total: u8,
-)
+fn write_end<const N: usize>(line: &mut Line, word: &[u8; N], field: u8, figure: i32, total: u8)
     requires { length line.old + length (end_bytes word.now field figure total) ≤ 512 }
     ensures { line.new ≡ line.old ++ end_bytes word.now field figure total }
 {
