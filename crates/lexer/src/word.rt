@@ -40,6 +40,7 @@ pub fn first_word(line: &[u8]) -> &[u8]
 }
 
 // The form that a word names. The proof of one match on these texts didn't close: its last arm is reached in 28 ways.
+#[inline(always)]
 pub fn form_named(word: &[u8]) -> Option<FormWord>
     ensures { named_row result ≡ row_in word_rows word.now }
 {
