@@ -6,8 +6,8 @@
 ghost use Rattle.std.specs.Prelude.{◌≡◌, ◌≤◌, length};
 ghost use Rattle.model.specs.Told.{tap_told};
 ghost use Rattle.packing.specs.Numbered.{Numbered};
-ghost use Rattle.tape_numbers.specs.Numbers.{tap_number, refusal_number, two_in, found_in, two_fit, TwoFit};
-ghost use Rattle.tape_numbers.specs.Compared.{comparison_of, culprit_of, start_of, length_of};
+ghost use Rattle.tape_numbers.specs.Numbers.{tap_number, refusal_number, two_in, two_fit, TwoFit};
+ghost use Rattle.tape_numbers.specs.Compared.{comparison_of, found_of, culprit_of, start_of, length_of};
 
 use model::{Difference, Tap};
 
@@ -35,12 +35,10 @@ fn put_two(list: &mut [u64], a: u64, b: u64)
 }
 
 // The refusal's number, and in the list the line number and its tape.
-#[tactic(auto, unfolding(crate::specs::Numbers::TwoFit, packing::specs::Numbered::Numbered, crate::specs::Numbers::refusal_number, crate::specs::Numbers::found_in, crate::specs::Compared::comparison_of, model::specs::Told::tap_told))]
+#[tactic(auto, unfolding(crate::specs::Numbers::TwoFit, packing::specs::Numbered::Numbered, crate::specs::Numbers::refusal_number, crate::specs::Numbers::two_fit, crate::specs::Compared::comparison_of, crate::specs::Compared::found_of, model::specs::Told::tap_told))]
 pub fn put_found<E: Into<u8> + Drop>(answer: Result<Option<Difference>, E>, found: &mut [u64]) -> u8
-    ensures { TwoFit found.old
-        (Numbered E.converts answer (λ a. (result ≡ refusal_number (comparison_of a))
-        × (found.new ≡ found_in (comparison_of a) found.old)))
-        ((result ≡ 255) × (found.new ≡ found.old)) }
+    ensures number { TwoFit found.old (Numbered E.converts answer (λ a. result ≡ refusal_number (comparison_of a))) (result ≡ 255) }
+    ensures list { found.new ≡ two_fit found.old (found_of answer found.old) found.old }
 {
     if found.len() < 2 {
         return NO_ROOM;
