@@ -9,7 +9,7 @@ ghost use Rattle.tape_writer.specs.Writing.{end_bytes};
 
 use line_writer::line::Line;
 use model::StepAnswer;
-use shown::status::write_standing;
+use shown::status::push_standing;
 
 // A step that ended a collect: its word with the island or the flag and the figure, and the collect's total last. The word's
 // length is known as it is compiled, so that it is copied by stores and by no call.
@@ -18,7 +18,7 @@ fn write_end<const N: usize>(line: &mut Line, word: &[u8; N], field: u8, figure:
     requires { length line.old + length (end_bytes word.now field figure total) ≤ 512 }
     ensures { line.new ≡ line.old ++ end_bytes word.now field figure total }
 {
-    write_standing(line, word, field, figure);
+    push_standing(line, word, field, figure);
     line.push(b' ');
     line.push_decimal(u32::from(total));
     line.push(b')');

@@ -1,16 +1,16 @@
 -- The word with an index as the code takes it from the store, an index that names no word, a word put into lent bytes, and how
 -- long words are.
 -- Relies on the walk along the store; the proofs of letters_of and write_named and those who write words rely on it.
-use Rattle.model.proofs.Kit.{◌≡◌, sym, ap, ◌∙◌, true, false, List, [], ◌++◌, append_assoc, ℕ, ◌+◌, ◌-◌, ◌≤◌, ◌<◌}
+use Rattle.model.proofs.Kit.{◌≡◌, sym, ap, ◌∙◌, true, false, List, [], ℕ, ◌+◌, ◌-◌, ◌≤◌, ◌<◌}
 use Rattle.model.proofs.Kit.{ltb-true, ltb-false, leb, ltb, leb→le, T}
 use Rattle.model.proofs.Kit.{length, take, drop, get_or, arith}
 use lib.ListN.{get_or-eq_default}
-use borrow.Rule.Slice.PartMut.{put_mid, Post-is}
 use Rattle.model.specs.Bytes.{every, splice}
 use Rattle.model.specs.Show.{text, text_from}
 use Rattle.model.proofs.Basics.Splices.{splice_none}
 use Rattle.model.proofs.Basics.Tests.{every_at, by_test}
 use Rattle.std.specs.Prelude.{sum}
+use Rattle.line_writer.proofs.LentBytes.{part_back}
 use Rattle.words.specs.Store.{words, word_text, Packed}
 use Rattle.words.proofs.Laws.Walking.{words_count, part_is}
 
@@ -30,16 +30,6 @@ unfolding word_text
 no_word {i} h = get_or-eq_default words [] {n = i} h
 
 -- ---- a text put into lent bytes
-
--- the part of the bytes from `at` on, back in its place with the text
-pub part_back : (at : ℕ) (b : List ℕ) {end : ℕ} {y t : List ℕ} → end ≡ at + length t → y ≡ t
-    → put_mid at (end - at) b y ≡ splice at t b
-unfolding splice
-part_back at b {end} {y} {t} h e =
-    ap (λ (r : List ℕ). take at b ++ (y ++ r)) (Post-is at end b (omega (arith, h)))
-    ∙ ap (λ (x : List ℕ). take at b ++ (x ++ drop end b)) e
-    ∙ sym (append_assoc (take at b) t (drop end b))
-    ∙ ap (λ (k : ℕ). take at b ++ t ++ drop k b) h
 
 -- where no word has the index nothing is put
 pub none_put : {i : ℕ} → length words ≤ i → (at : ℕ) (b : List ℕ) → b ≡ splice at (word_text i) b
