@@ -25,5 +25,14 @@ pub fn zero_cell(s: &[u8], at: usize) -> bool
     requires { at + 8 ≤ length s.now }
     ensures { result ≡ zeros (part at 8 s.now) }
 {
-    zero_word(s, at) && zero_word(s, at + 4)
+    u64::from_le_bytes([
+        s[at],
+        s[at + 1],
+        s[at + 2],
+        s[at + 3],
+        s[at + 4],
+        s[at + 5],
+        s[at + 6],
+        s[at + 7],
+    ]) == 0
 }

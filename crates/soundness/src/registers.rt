@@ -7,23 +7,21 @@ ghost use Rattle.model.specs.Layout.{board_length};
 ghost use Rattle.model.specs.Sound.{register_sound, array_sound, registers_sound};
 
 use figures::word_at;
-use figures::zeros::{zero_pair, zero_word};
+use figures::zeros::{zero_cell, zero_pair};
 
-// The mark, the island and two zeros are read as one number, which decides all but the n registers of m: in A and B the
-// island is zero, so that the number of a filled register is its mark.
+// In A and B the island is zero, so that the first four bytes of a filled register, as one number, are its mark; a register
+// with no mark is sound where all eight bytes are zero. In this order each of the two tests is one comparison, and these rows are
+// nearly all of a board.
 #[tactic(auto, using(crate::proofs::Laws::Rows::one))]
 fn register_sound(s: &[u8], at: usize, marks: u8, islands: u8) -> bool
     requires { at + 8 ≤ length s.now }
     ensures { result ≡ register_sound marks islands (part at 8 s.now) }
 {
-    let word = word_at(s, at);
-    if word == 0 {
-        return zero_word(s, at + 4);
-    }
     if islands == 1 {
-        return word <= u32::from(marks);
+        let word = word_at(s, at);
+        return word != 0 && word <= u32::from(marks) || zero_cell(s, at);
     }
-    s[at] != 0 && s[at] <= marks && s[at + 1] < islands && zero_pair(s, at + 2)
+    zero_cell(s, at) || s[at] != 0 && s[at] <= marks && s[at + 1] < islands && zero_pair(s, at + 2)
 }
 
 // The n registers from start on.

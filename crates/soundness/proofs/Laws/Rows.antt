@@ -1,6 +1,6 @@
 -- A register by the tests that the code makes, and the board's head.
 -- Relies on Zeros and on codec's laws of parts; the proofs of registers and of head_sound rely on it.
-use Rattle.model.proofs.Kit.{◌≡◌, refl, sym, ap, ◌∙◌, Bool, false, ◌&&◌, not, List, ℕ, suc, ◌+◌, ◌-◌, ◌≤◌, ◌<◌}
+use Rattle.model.proofs.Kit.{◌≡◌, refl, sym, ap, ◌∙◌, Bool, true, false, ◌&&◌, not, List, ℕ, suc, ◌+◌, ◌-◌, ◌≤◌, ◌<◌}
 use Rattle.model.proofs.Kit.{◌*◌, lt-leb, eq-eqb, ne_eqb, eqb, leb, ltb, le→leb, leb→le, lit<}
 use Rattle.model.proofs.Kit.{T, lit≤, ltb→lt, lt→ltb, length, ℕ_discrete, add-zero, arith}
 use native.Mathlib.Nat.{mul-zero, mul-one, mul-suc}
@@ -25,12 +25,10 @@ module _ (marks islands : ℕ) (b : List ℕ) (at : ℕ) (h : at + 8 ≤ length 
   filled : Bool
   filled = leb (byte (part at 8 b) 0) marks && ltb (byte (part at 8 b) 1) islands && zeros (part 2 2 (part at 8 b))
 
-  register_empty : byte b at ≡ 0
-      → zeros (part at 4 b) && zeros (part (at + 4) 4 b) ≡ register_sound marks islands (part at 8 b)
+  register_empty : byte b at ≡ 0 → zeros (part at 8 b) ≡ register_sound marks islands (part at 8 b)
   unfolding register_sound filled
   register_empty e =
-      sym (zeros_join b at 4 4)
-      ∙ cond_yes (eqb (byte (part at 8 b) 0) 0) (zeros (part at 8 b)) filled
+      cond_yes (eqb (byte (part at 8 b) 0) 0) (zeros (part at 8 b)) filled
       (eq-eqb (byte (part at 8 b) 0) 0 (sym mark ∙ e))
 
   register_filled : (byte b at ≡ 0 → ⊥)
@@ -43,6 +41,15 @@ module _ (marks islands : ℕ) (b : List ℕ) (at : ℕ) (h : at + 8 ≤ length 
       ∙ cond_no (eqb (byte (part at 8 b) 0) 0) (zeros (part at 8 b)) filled
       (ne_eqb (byte (part at 8 b) 0) 0 (λ e. f (mark ∙ e)))
 
+  -- a register whose mark is zero, and another byte is not
+  stray : byte b at ≡ 0 → zeros (part at 8 b) ≡ false → false ≡ register_sound marks islands (part at 8 b)
+  stray z e = sym e ∙ register_empty z
+
+  pub cell_empty : (r : Bool) → r ≡ zeros (part at 8 b) → r ≡ true → r ≡ register_sound marks islands (part at 8 b)
+  cell_empty r e q =
+      let z = zero_at_lem at 8 b h (true-T (zeros (part at 8 b)) (sym e ∙ q)) 0 (lit< tt) in
+      e ∙ register_empty (sym (ap (byte b) (add-zero at)) ∙ z)
+
   -- the first four bytes as one number
   module _ (word : ℕ) (e : word ≡ number (part at 4 b)) where
     its_bytes : word ≡ byte b at + 256 * byte b (at + 1) + 65536 * byte b (at + 2) + 16777216 * byte b (at + 3)
@@ -53,17 +60,18 @@ module _ (marks islands : ℕ) (b : List ℕ) (at : ℕ) (h : at + 8 ≤ length 
     next : at + 2 + 1 ≡ at + 3
     next = omega arith
 
+    -- all eight bytes, with the word in the place of the first four
+    by_word : (t : Bool) → eqb word 0 ≡ t → zeros (part at 8 b) ≡ t && zeros (part (at + 4) 4 b)
+    by_word t q =
+        zeros_join b at 4 4
+        ∙ ap (λ (x : Bool). x && zeros (part (at + 4) 4 b)) (sym (word_zero word (part at 4 b) e) ∙ q)
+
     pub word_empty : word ≡ 0 → (r : Bool) → r ≡ zeros (part (at + 4) 4 b)
         → r ≡ register_sound marks islands (part at 8 b)
-    word_empty z r er =
-        er ∙ ap (λ (t : Bool). t && zeros (part (at + 4) 4 b)) (sym (eq-eqb word 0 z) ∙ word_zero word (part at 4 b) e)
-        ∙ register_empty (omega (arith, its_bytes))
+    word_empty z r er = er ∙ sym (by_word true (eq-eqb word 0 z)) ∙ register_empty (omega (arith, its_bytes))
 
-    -- a register whose mark is zero and whose island or zeros are not
-    word_stray : (word ≡ 0 → ⊥) → byte b at ≡ 0 → false ≡ register_sound marks islands (part at 8 b)
-    word_stray f z =
-        ap (λ (t : Bool). t && zeros (part (at + 4) 4 b)) (sym (ne_eqb word 0 f) ∙ word_zero word (part at 4 b) e)
-        ∙ register_empty z
+    word_not_empty : (word ≡ 0 → ⊥) → zeros (part at 8 b) ≡ false
+    word_not_empty f = by_word false (ne_eqb word 0 f)
 
     -- a filled register whose island is zero is its mark
     module _ (small : marks ≤ 255) (one : islands ≡ 1) (f : word ≡ 0 → ⊥) where
@@ -108,20 +116,32 @@ module _ (marks islands : ℕ) (b : List ℕ) (at : ℕ) (h : at + 8 ≤ length 
       word_mark = go (ℕ_discrete (byte b at) 0)
         where
           go : Dec (byte b at ≡ 0) → leb word marks ≡ register_sound marks islands (part at 8 b)
-          go (yes z) = lt-leb word marks (omega (arith, its_bytes)) ∙ word_stray f z
+          go (yes z) = lt-leb word marks (omega (arith, its_bytes)) ∙ stray z (word_not_empty f)
           go (no g) = both (leb word marks) (low && inside && rest) forth back ∙ register_filled g
 
+    -- a word that is no mark, where the island is zero
+    pub unmarked : marks ≤ 255 → islands ≡ 1 → not (eqb word 0) && leb word marks ≡ false → (r : Bool)
+        → r ≡ zeros (part at 8 b) → r ≡ register_sound marks islands (part at 8 b)
+    unmarked small one q r er = er ∙ go (ℕ_discrete word 0)
+      where
+        go : Dec (word ≡ 0) → zeros (part at 8 b) ≡ register_sound marks islands (part at 8 b)
+        go (yes z) = by_word true (eq-eqb word 0 z) ∙ word_empty z _ refl
+        go (no f) =
+            word_not_empty f
+            ∙ sym (ap (λ (t : Bool). not t && leb word marks) (sym (ne_eqb word 0 f)) ∙ q)
+            ∙ word_mark small one f
+
 -- the tests of the three bytes one after another, with the mark's own first
-pub by_bytes : (marks islands : ℕ) (b : List ℕ) (at : ℕ) → at + 8 ≤ length b → (number (part at 4 b) ≡ 0 → ⊥)
-    → register_sound marks islands (part at 8 b)
+pub by_bytes : (marks islands : ℕ) (b : List ℕ) (at : ℕ) → at + 8 ≤ length b → (r : Bool) → r ≡ zeros (part at 8 b)
+    → r ≡ false → register_sound marks islands (part at 8 b)
     ≡ not (eqb (byte b at) 0) && leb (byte b at) marks && ltb (byte b (at + 1)) islands && zeros (part (at + 2) 2 b)
-by_bytes marks islands b at h f = sym (go (ℕ_discrete (byte b at) 0))
+by_bytes marks islands b at h r e f = sym (go (ℕ_discrete (byte b at) 0))
   where
     tests : Bool → Bool
     tests t = not t && leb (byte b at) marks && ltb (byte b (at + 1)) islands && zeros (part (at + 2) 2 b)
 
     go : Dec (byte b at ≡ 0) → tests (eqb (byte b at) 0) ≡ register_sound marks islands (part at 8 b)
-    go (yes z) = ap tests (eq-eqb (byte b at) 0 z) ∙ word_stray marks islands b at h _ refl f z
+    go (yes z) = ap tests (eq-eqb (byte b at) 0 z) ∙ stray marks islands b at h z (sym e ∙ f)
     go (no g) = ap tests (ne_eqb (byte b at) 0 g) ∙ register_filled marks islands b at h g
 
 -- the head's six zeros are two and four
@@ -203,7 +223,7 @@ unfolding board_length
 m_inside n k b l = omega arith
 
 -- what each step has to show: of one register, of a row, of all
-pub ruleset one = (word_empty, word_mark, by_bytes)
+pub ruleset one = (word_mark, unmarked, cell_empty, by_bytes)
 
 pub ruleset row = (every_none, every_more, chains.no, chains.yes)
 
