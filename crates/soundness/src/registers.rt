@@ -10,8 +10,8 @@ use figures::word_at;
 use figures::zeros::{zero_cell, zero_pair};
 
 // In A and B the island is zero, so that the first four bytes of a filled register, as one number, are its mark; a register
-// with no mark is sound where all eight bytes are zero. In this order each of the two tests is one comparison, and these rows are
-// nearly all of a board.
+// with no mark is sound where all eight bytes are zero. Each of the two tests is one comparison, and these rows are nearly all of
+// a board; with zero asked first they take a fifth more instructions.
 #[tactic(auto, using(crate::proofs::Laws::Rows::one))]
 fn register_sound(s: &[u8], at: usize, marks: u8, islands: u8) -> bool
     requires { at + 8 ≤ length s.now }

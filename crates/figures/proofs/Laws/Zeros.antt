@@ -1,4 +1,4 @@
--- Lists of zeros: by their bytes, by their number, and as a figure's bytes.
+-- Lists of zeros: by their bytes, by their number, and as a figure's bytes; and eight bytes at a place as one number.
 -- Relies on the laws on numbers of the crate model; the tests of zero bytes and zero fields rely on it.
 use Rattle.model.proofs.Kit.{◌≡◌, refl, sym, ap, ◌∙◌, Bool, true, false, ◌&&◌, List, [], ◌∷◌, ◌++◌, ℕ, ◌+◌}
 use Rattle.model.proofs.Kit.{◌≤◌, ◌*◌, eq-eqb, ne_eqb, eqb, ℤ, length, w32, of_z, SFits, ℕ_discrete, add-zero}

@@ -41,7 +41,7 @@ module _ (marks islands : ℕ) (b : List ℕ) (at : ℕ) (h : at + 8 ≤ length 
       ∙ cond_no (eqb (byte (part at 8 b) 0) 0) (zeros (part at 8 b)) filled
       (ne_eqb (byte (part at 8 b) 0) 0 (λ e. f (mark ∙ e)))
 
-  -- a register whose mark is zero, and another byte is not
+  -- a register whose first byte is zero, and another byte is not
   stray : byte b at ≡ 0 → zeros (part at 8 b) ≡ false → false ≡ register_sound marks islands (part at 8 b)
   stray z e = sym e ∙ register_empty z
 
@@ -60,18 +60,10 @@ module _ (marks islands : ℕ) (b : List ℕ) (at : ℕ) (h : at + 8 ≤ length 
     next : at + 2 + 1 ≡ at + 3
     next = omega arith
 
-    -- all eight bytes, with the word in the place of the first four
-    by_word : (t : Bool) → eqb word 0 ≡ t → zeros (part at 8 b) ≡ t && zeros (part (at + 4) 4 b)
-    by_word t q =
-        zeros_join b at 4 4
-        ∙ ap (λ (x : Bool). x && zeros (part (at + 4) 4 b)) (sym (word_zero word (part at 4 b) e) ∙ q)
-
-    pub word_empty : word ≡ 0 → (r : Bool) → r ≡ zeros (part (at + 4) 4 b)
-        → r ≡ register_sound marks islands (part at 8 b)
-    word_empty z r er = er ∙ sym (by_word true (eq-eqb word 0 z)) ∙ register_empty (omega (arith, its_bytes))
-
     word_not_empty : (word ≡ 0 → ⊥) → zeros (part at 8 b) ≡ false
-    word_not_empty f = by_word false (ne_eqb word 0 f)
+    word_not_empty f =
+        zeros_join b at 4 4
+        ∙ ap (λ (t : Bool). t && zeros (part (at + 4) 4 b)) (sym (word_zero word (part at 4 b) e) ∙ ne_eqb word 0 f)
 
     -- a filled register whose island is zero is its mark
     module _ (small : marks ≤ 255) (one : islands ≡ 1) (f : word ≡ 0 → ⊥) where
@@ -119,19 +111,19 @@ module _ (marks islands : ℕ) (b : List ℕ) (at : ℕ) (h : at + 8 ≤ length 
           go (yes z) = lt-leb word marks (omega (arith, its_bytes)) ∙ stray z (word_not_empty f)
           go (no g) = both (leb word marks) (low && inside && rest) forth back ∙ register_filled g
 
-    -- a word that is no mark, where the island is zero
+    -- a word that is no mark of its row, where the island is zero
     pub unmarked : marks ≤ 255 → islands ≡ 1 → not (eqb word 0) && leb word marks ≡ false → (r : Bool)
         → r ≡ zeros (part at 8 b) → r ≡ register_sound marks islands (part at 8 b)
     unmarked small one q r er = er ∙ go (ℕ_discrete word 0)
       where
         go : Dec (word ≡ 0) → zeros (part at 8 b) ≡ register_sound marks islands (part at 8 b)
-        go (yes z) = by_word true (eq-eqb word 0 z) ∙ word_empty z _ refl
+        go (yes z) = register_empty (omega (arith, its_bytes))
         go (no f) =
             word_not_empty f
             ∙ sym (ap (λ (t : Bool). not t && leb word marks) (sym (ne_eqb word 0 f)) ∙ q)
             ∙ word_mark small one f
 
--- the tests of the three bytes one after another, with the mark's own first
+-- of a register that is not all zero, the tests of the three bytes one after another, with the mark's own first
 pub by_bytes : (marks islands : ℕ) (b : List ℕ) (at : ℕ) → at + 8 ≤ length b → (r : Bool) → r ≡ zeros (part at 8 b)
     → r ≡ false → register_sound marks islands (part at 8 b)
     ≡ not (eqb (byte b at) 0) && leb (byte b at) marks && ltb (byte b (at + 1)) islands && zeros (part (at + 2) 2 b)
