@@ -1,8 +1,9 @@
 -- Lists of zeros: by their bytes, by their number, and as a figure's bytes; and eight bytes at a place as one number.
 -- Relies on the laws on numbers of the crate model; the tests of zero bytes and zero fields rely on it.
 use Rattle.model.proofs.Kit.{◌≡◌, refl, sym, ap, ◌∙◌, Bool, true, false, ◌&&◌, List, [], ◌∷◌, ◌++◌, ℕ, ◌+◌}
-use Rattle.model.proofs.Kit.{◌≤◌, ◌*◌, eq-eqb, ne_eqb, eqb, ℤ, length, w32, of_z, SFits, ℕ_discrete, add-zero}
+use Rattle.model.proofs.Kit.{◌-◌, ◌≤◌, ◌*◌, not, eq-eqb, ne_eqb, eqb, ℤ, length, w32, of_z, SFits, ℕ_discrete, add-zero}
 use Rattle.model.proofs.Kit.{arith}
+use borrow.Author.Tests.{not-true, not-false}
 use mir.Facts.{Fits-of_z}
 use Rattle.model.specs.Bytes.{byte, number, part, zeros}
 use Rattle.model.specs.Figure.{figure_bytes}
@@ -69,3 +70,18 @@ cell_read b at s t u v w x y z h es et eu ev ew ex ey ez =
 pub zeros_join : (b : List ℕ) (at k m : ℕ)
     → zeros (part at (k + m) b) ≡ zeros (part at k b) && zeros (part (at + k) m b)
 zeros_join b at k m = ap zeros (part_join at k m b) ∙ zeros_append (part at k b) (part (at + k) m b)
+
+-- as code tests them: r is the first of the two, and t the second, which begins at `from`
+module _ (b : List ℕ) (at len k : ℕ) (r : Bool) (first : r ≡ zeros (part at k b)) where
+  pub first_fails : not r ≡ true → k ≤ len → false ≡ zeros (part at len b)
+  first_fails e h =
+      let whole : len ≡ k + (len - k) = omega arith in
+      sym (ap (λ (x : ℕ). zeros (part at x b)) whole ∙ zeros_join b at k (len - k)
+      ∙ ap (λ (x : Bool). x && zeros (part (at + k) (len - k) b)) (sym first ∙ not-true r e))
+
+  pub second_decides : not r ≡ false → (t : Bool) (from m : ℕ) → t ≡ zeros (part from m b) → from ≡ at + k → len ≡ k + m
+      → t ≡ zeros (part at len b)
+  second_decides e t from m second q whole =
+      second ∙ ap (λ (x : ℕ). zeros (part x m b)) q
+      ∙ sym (ap (λ (x : ℕ). zeros (part at x b)) whole ∙ zeros_join b at k m
+      ∙ ap (λ (x : Bool). x && zeros (part (at + k) m b)) (sym first ∙ not-false r e))

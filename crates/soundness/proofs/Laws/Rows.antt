@@ -60,6 +60,13 @@ module _ (marks islands : ℕ) (b : List ℕ) (at : ℕ) (h : at + 8 ≤ length 
     next : at + 2 + 1 ≡ at + 3
     next = omega arith
 
+    pub word_empty : word ≡ 0 → (r : Bool) → r ≡ zeros (part (at + 4) 4 b)
+        → r ≡ register_sound marks islands (part at 8 b)
+    word_empty z r er =
+        er ∙ ap (λ (t : Bool). t && zeros (part (at + 4) 4 b)) (sym (eq-eqb word 0 z) ∙ word_zero word (part at 4 b) e)
+        ∙ sym (zeros_join b at 4 4)
+        ∙ register_empty (omega (arith, its_bytes))
+
     word_not_empty : (word ≡ 0 → ⊥) → zeros (part at 8 b) ≡ false
     word_not_empty f =
         zeros_join b at 4 4
@@ -124,10 +131,10 @@ module _ (marks islands : ℕ) (b : List ℕ) (at : ℕ) (h : at + 8 ≤ length 
             ∙ word_mark small one f
 
 -- of a register that is not all zero, the tests of the three bytes one after another, with the mark's own first
-pub by_bytes : (marks islands : ℕ) (b : List ℕ) (at : ℕ) → at + 8 ≤ length b → (r : Bool) → r ≡ zeros (part at 8 b)
+pub cell_by_bytes : (marks islands : ℕ) (b : List ℕ) (at : ℕ) → at + 8 ≤ length b → (r : Bool) → r ≡ zeros (part at 8 b)
     → r ≡ false → register_sound marks islands (part at 8 b)
     ≡ not (eqb (byte b at) 0) && leb (byte b at) marks && ltb (byte b (at + 1)) islands && zeros (part (at + 2) 2 b)
-by_bytes marks islands b at h r e f = sym (go (ℕ_discrete (byte b at) 0))
+cell_by_bytes marks islands b at h r e f = sym (go (ℕ_discrete (byte b at) 0))
   where
     tests : Bool → Bool
     tests t = not t && leb (byte b at) marks && ltb (byte b (at + 1)) islands && zeros (part (at + 2) 2 b)
@@ -135,6 +142,13 @@ by_bytes marks islands b at h r e f = sym (go (ℕ_discrete (byte b at) 0))
     go : Dec (byte b at ≡ 0) → tests (eqb (byte b at) 0) ≡ register_sound marks islands (part at 8 b)
     go (yes z) = ap tests (eq-eqb (byte b at) 0 z) ∙ stray marks islands b at h z (sym e ∙ f)
     go (no g) = ap tests (ne_eqb (byte b at) 0 g) ∙ register_filled marks islands b at h g
+
+-- the same where it is known of the first four bytes alone
+pub by_bytes : (marks islands : ℕ) (b : List ℕ) (at : ℕ) → at + 8 ≤ length b → (number (part at 4 b) ≡ 0 → ⊥)
+    → register_sound marks islands (part at 8 b)
+    ≡ not (eqb (byte b at) 0) && leb (byte b at) marks && ltb (byte b (at + 1)) islands && zeros (part (at + 2) 2 b)
+by_bytes marks islands b at h f =
+    cell_by_bytes marks islands b at h _ refl (word_not_empty marks islands b at h _ refl f)
 
 -- the head's six zeros are two and four
 pub head_form : (b : List ℕ) → head_sound b ≡ zeros (part 2 2 b) && zeros (part 4 4 b)
@@ -215,7 +229,7 @@ unfolding board_length
 m_inside n k b l = omega arith
 
 -- what each step has to show: of one register, of a row, of all
-pub ruleset one = (word_mark, unmarked, cell_empty, by_bytes)
+pub ruleset one = (word_empty, word_mark, unmarked, cell_empty, cell_by_bytes, by_bytes)
 
 pub ruleset row = (every_none, every_more, chains.no, chains.yes)
 

@@ -81,14 +81,26 @@ module _ (i : ℕ) (b out : List ℕ) (t : Taped) where
     pub step_refused : q ≡ false → taping b out t ≡ taped_one i (taping b out t)
     step_refused n = sym (one_refused i (taping b out t) (sym going ∙ n))
 
-    pub line_put : q ≡ true → (t.room ≡ 0 → ⊥) → t.left ≤ 0
+    pub step_put : q ≡ true → (t.room ≡ 0 → ⊥) → t.left ≤ 0
         → (d : List ℕ) → d ≡ (step_on i b).bytes
         → (now : List ℕ) → now ≡ splice t.len (step_line i b) out
         → (n : ℕ) → n ≡ length (step_line i b)
         → taping d now (record { left = 0; room = t.room - 1; len = t.len + n })
         ≡ taped_one i (taping b out t)
-    line_put y wanted none_left d h now put n count =
+    step_put y wanted none_left d h now put n count =
         (λ j. taping (h j) (put j) (record { left = 0; room = t.room - 1; len = t.len + count j }))
         ∙ sym (one_written i (taping b out t) wanted (sym going ∙ y) (omega arith))
 
-pub ruleset one_step = (none_wanted, counted_few, passed_over_lem, count_few, step_refused)
+    -- the same from what the step and the writer of its line promise
+    pub line_put : q ≡ true → (t.room ≡ 0 → ⊥) → t.left ≤ 0
+        → (a : StepAnswer) (d : List ℕ) → StepsOn i b a d → (line : List ℕ)
+        → line ≡ entry_text (record { station = i; report = told a }) ++ (10 ∷ [])
+        → (now : List ℕ) → now ≡ splice t.len line out
+        → (n : ℕ) → n ≡ length line
+        → taping d now (record { left = 0; room = t.room - 1; len = t.len + n })
+        ≡ taped_one i (taping b out t)
+    line_put y wanted none_left a d h line is now e n count =
+        step_put y wanted none_left d (board_is i b a d h) now (line_at i b a d h line is t.len out now e) n
+        (line_count i b a d h line is n count)
+
+pub ruleset one_step = (none_wanted, counted_few, passed_over_lem, line_long, count_few, step_refused)
